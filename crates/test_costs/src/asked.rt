@@ -18,8 +18,8 @@ macro_rules! counts {
 
 pub(crate) use counts;
 
-/// Counts the fetches of words, and the other calls except those of `capacity`. It also notes which
-/// words were fetched.
+/// The numbers of fetches of words and of other calls. Calls of `capacity` do not count. The type
+/// also notes which words were fetched.
 #[derive(Drop)]
 pub(crate) struct Asked {
     // Bit `k % 64` is set if word `k` was fetched.
@@ -90,8 +90,8 @@ impl Asked {
         self.fetches.get() <= words && self.other.get() == 0
     }
 
-    /// Returns which words were fetched: bit `k` is set if word `k` was. Returns `None` if a word
-    /// was fetched twice, or if there was another call.
+    /// Returns which words were fetched: bit `k` of the result is set if word `k` was fetched.
+    /// Returns `None` if a word was fetched twice, or if a call other than a fetch was made.
     pub(crate) fn words_once(&self) -> Option<u64> {
         let words = self.words.get();
         if self.is_at_most(words.count_ones()) {

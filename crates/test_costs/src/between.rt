@@ -66,8 +66,8 @@ fn shift<B: BitsMut>(set: &mut B, up: u32, down: u32)
 // How many words of a set were fetched, and how many other calls were made to it.
 type Counts = (u32, u32);
 
-// Makes a change of the set of `ONES`. The other set has the bytes `other`. Tests the bytes that
-// result, and the counts of both sets.
+// Changes the set with the bytes `ONES`. The other set has the bytes `other`. Tests the bytes of
+// the set after the change, and the counts of both sets.
 fn change_ones(
     rt: &impl Abort,
     kind: Change,
@@ -109,8 +109,9 @@ fn setting_every_bit_fetches_nothing(rt: HostRuntime) {
 
 #[test]
 fn a_shift_in_place_fetches_each_word_twice_at_most(rt: HostRuntime) {
-    // The members are 0 and 31. The shift up by 9 drops 31, and the shift down by 8 then moves 9 to
-    // 1. Each shift makes two words from two words each, and one from one word: five fetches.
+    // The members are 0 and 31. The shift up by 9 drops 31 and moves 0 to 9. The shift down by 8
+    // moves 9 to 1. Each shift makes two new words from two words each, and a third from one word:
+    // five fetches.
     change_ones(
         &rt,
         Change::Shifts(9, 8),

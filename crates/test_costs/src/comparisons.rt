@@ -1,6 +1,6 @@
-//! Tests how many words comparisons fetch. If two sets are equal, each word is fetched once, and
-//! for slices the first word twice. If two sets differ, a test of equality fetches no word past the
-//! four words with the first difference.
+//! Tests how many words comparisons fetch. If two sets are equal, a comparison fetches each word
+//! once, but the first word of a slice twice. If two sets differ, a test of equality fetches no
+//! word past the group of four words in which the first difference lies.
 
 ghost use Rattle.std.specs.Prelude.{◌*◌, length, IsTrue};
 ghost use Rattle.bittle.specs.Shapes.{Fits};
@@ -34,7 +34,8 @@ fn are<A: Bits, B: Bits>(relation: Relation, one: A, other: &B) -> bool
     }
 }
 
-// What an element is compared with: another one, a `Set` of one in either order, or three bytes.
+// What an element is compared with: another element, a `Set` that wraps an element in either bit
+// order, or three bytes.
 #[derive(Drop)]
 enum Second {
     Element,
@@ -134,8 +135,8 @@ fn equality_fetches_each_word_once(rt: HostRuntime) {
 
 #[test]
 fn equality_ends_with_the_four_words_that_differ(rt: HostRuntime) {
-    // The first four of eight words are fetched for one test. Two of them are fetched again to find
-    // the index of the difference.
+    // The first four of eight words are fetched, and are compared in one test. Then the first two
+    // of them are fetched again to find the index of the difference.
     let (left, right) = (Asked::new(), Asked::new());
     let other = [[1, 2, 0, 128], ONES];
     holds!(rt; bytes_are(Relation::Unequal, Sides::Rows, [ONES; 2], &left, other, &right));
@@ -144,8 +145,8 @@ fn equality_ends_with_the_four_words_that_differ(rt: HostRuntime) {
 
 #[test]
 fn comparisons_end_with_the_four_words_that_differ(rt: HostRuntime) {
-    // Only the right set has index 9. So the word of index 9 is fetched once more from the left
-    // set, and then the words up to a member past 9.
+    // Only the right set has the member 9. So the word of index 9 is fetched once more from the
+    // left set. Then the words of this set are fetched from there up to a member past 9.
     let (left, right) = (Asked::new(), Asked::new());
     let relation = Relation::Ordered(Ordering::Greater);
     let other = [[1, 2, 0, 128], ONES];
@@ -180,7 +181,7 @@ fn comparisons_with_a_longer_side_fetch_each_word_once(rt: HostRuntime) {
 
 #[test]
 fn comparisons_ask_the_other_side_for_a_member_past_the_index(rt: HostRuntime) {
-    // Only the left set has index 9.
+    // Only the left set has the member 9.
     let (left, right) = (Asked::new(), Asked::new());
     let (relation, one) = (Relation::Ordered(Ordering::Less), [[1, 2, 0, 128]; 2]);
     let sides = Sides::Elements(Second::Element);
@@ -190,8 +191,8 @@ fn comparisons_ask_the_other_side_for_a_member_past_the_index(rt: HostRuntime) {
 
 #[test]
 fn a_difference_in_the_first_word_ends_a_comparison(rt: HostRuntime) {
-    // The first four of eight words are fetched for one test. The first is fetched again to find
-    // the index of the difference.
+    // The first four of eight words are fetched, and are compared in one test. Then the first of
+    // them is fetched again to find the index of the difference.
     let (left, right) = (Asked::new(), Asked::new());
     let other = [[2, 0, 0, 128], ONES];
     holds!(rt; bytes_are(Relation::Unequal, Sides::Rows, [ONES; 2], &left, other, &right));
@@ -212,9 +213,9 @@ fn wide_words_are_compared_by_words(rt: HostRuntime) {
 
 #[test]
 fn comparisons_ask_this_side_for_an_index_of_the_other(rt: HostRuntime) {
-    // Only the right set has index 9. From each set four words are fetched for a test, and two to
-    // find the index. From the left set word 1, which has index 9, is then fetched again, and words
-    // 1 to 3 for a member past 9.
+    // Only the right set has the member 9. From each set four words are fetched for one test, and
+    // two of them again to find index 9. From the left set word 1, in which index 9 lies, is then
+    // fetched again. Then words 1 to 3 are fetched to search for a member past 9.
     let (left, right) = (Asked::new(), Asked::new());
     let (relation, other) = (Relation::Ordered(Ordering::Greater), [[1, 2, 0, 128]; 2]);
     let sides = Sides::Elements(Second::Element);

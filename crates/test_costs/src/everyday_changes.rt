@@ -1,5 +1,5 @@
-//! Tests what the everyday calls that change a set cost. A change of one bit reaches one word. A
-//! call that searches first fetches the words up to the bit that it finds.
+//! Tests of the costs of everyday calls that change a set. A change of one bit reaches one word. If
+//! a call first searches for a bit, it fetches the words up to this bit.
 
 ghost use Rattle.std.specs.Prelude.{◌≤◌, IsTrue};
 
@@ -9,7 +9,7 @@ use bittle::BitsOwned;
 use bittle_ext::{BitsIndexMutExt, BitsMutExt};
 use std::process::Abort;
 
-// Which calls change the rows.
+// The calls that change the rows.
 #[derive(Drop)]
 enum Kind {
     OneBitTold,

@@ -10,7 +10,7 @@ use bittle::{Bits, BitsOwned, LittleEndian, Shape};
 use bittle_ext::{BitsExt, BitsRangeExt, BitsViewExt};
 use std::process::Abort;
 
-// Which iterators or views read the rows.
+// The iterators or views that read the rows.
 #[derive(Drop)]
 enum Walk {
     Ranges,
@@ -53,7 +53,7 @@ impl Measured for Walk {
     }
 }
 
-// An iterator over an array loads one word at its start, even if its range is empty.
+// An iterator over an array fetches one word when it is made, even if its range is empty.
 fn iterate_over_ones_of_ranges<B: Bits>(rt: &impl Abort, few: &B, asked: &Asked)
     requires { ShapeFits B.Shape few.now }
 {
@@ -75,9 +75,9 @@ fn an_iterator_over_a_range_fetches_each_word_of_it_once(rt: HostRuntime) {
     measure_rows(&rt, Walk::Ranges);
 }
 
-// Each of the two iterators fetches 16 words: eight to find the run that begins at 451, and one for
-// the end of that run; one to find the run that begins at 508, and one for its end. Then it fetches
-// five words, up to the last word of the set, and finds no other run.
+// Each of the two iterators fetches 16 words. It fetches eight to find the run that begins at 451,
+// and one to find the end of this run. It fetches one to find the run that begins at 508, and one
+// to find its end. Then it fetches five words up to the end of the set, and finds no other run.
 fn iterate_over_runs<B: Bits>(rt: &impl Abort, few: &B, most: &B, asked: &Asked)
     requires few { ShapeFits B.Shape few.now }
     requires most { ShapeFits B.Shape most.now }

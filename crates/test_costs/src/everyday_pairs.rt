@@ -1,6 +1,7 @@
-//! Tests what the everyday calls on two sets cost. If the words of both have one width and order,
-//! four words are compared at a time. If one of the four decides, they are fetched again up to it.
-//! Other sets are searched in turn, each from the bit that was found in the other set.
+//! Tests what the everyday calls on two sets cost. If the words of both sets have the same width
+//! and bit order, four words of each set are compared at a time. If one of the four decides the
+//! result, they are fetched again up to that word. Other sets are searched in turn, and each search
+//! begins at the bit that was found in the other set.
 
 ghost use Rattle.bittle.specs.Values.{ShapeFits};
 

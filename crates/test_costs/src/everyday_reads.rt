@@ -1,5 +1,5 @@
-//! Tests what the everyday calls that read one set cost. Most fetch each word once, from the word
-//! where they begin up to the word that decides.
+//! Tests of the costs of everyday calls that read one set. Most calls fetch each word once, from
+//! the word where they begin up to the word that decides the result.
 
 ghost use Rattle.bittle.specs.Values.{ShapeFits};
 
@@ -10,7 +10,7 @@ use bittle::{Bits, BitsOwned};
 use bittle_ext::{BitsExt, BitsIndexExt, BitsSpanExt};
 use std::process::Abort;
 
-// Which calls read the rows.
+// The calls that read the rows.
 #[derive(Drop)]
 enum Question {
     Ends,
@@ -145,7 +145,8 @@ fn select_fetches_up_to_its_word_and_then_that_word_again(rt: HostRuntime) {
     measure_rows(&rt, Question::Select);
 }
 
-// Each word is fetched once: eight words up to bit 451, or all twelve if there is no run.
+// No call fetches a word twice. A search from index 0 fetches eight words up to bit 451, or all
+// twelve words if no run has the wanted length.
 fn search_for_runs_of_ones<B: Bits>(rt: &impl Abort, few: &B, asked: &Asked)
     requires { ShapeFits B.Shape few.now }
 {
@@ -184,8 +185,8 @@ fn runs_of_up_to_four_words_fetch_each_word_once(rt: HostRuntime) {
 fn search_for_longer_runs<B: Bits>(rt: &impl Abort, few: &B, asked: &Asked)
     requires { ShapeFits B.Shape few.now }
 {
-    // Eight words are fetched up to bit 451. A search from the back and one from the front then
-    // fetch word 11 each.
+    // Eight words are fetched up to bit 451. Then a search from the back fetches word 11, and a
+    // search from the front fetches word 11 again.
     costs!(rt; asked, few.first_one_run(257), None, 10, 0);
     // Word 0 is fetched from the front, and words 4 to 0 from the back.
     costs!(rt; asked, few.first_zero_run(257), Some(0), 6, 0);

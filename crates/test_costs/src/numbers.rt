@@ -97,8 +97,8 @@ fn write<A: BitsMut, B: Bits>(writing: Writing, set: &mut A, other: &B)
     }
 }
 
-// Writes to the set of `bytes`. Tests the bytes that result, how many words are fetched from it and
-// from the set of `ONES`, and that three words are written.
+// Writes to the set with the bytes `bytes`. Tests the bytes after the write, how many words are
+// fetched from this set and from the set with the bytes `ONES`, and that three words are written.
 fn write_bytes(
     rt: &impl Abort,
     writing: Writing,

@@ -1,5 +1,6 @@
-//! Tests the calls that an allocator makes to its map. A search finds a free page, and one call
-//! takes it or frees it.
+//! Tests the calls that an allocator makes to its map. To take a page, it searches for a free page
+//! and makes one call. To give a page back, it makes two calls: one tests whether the page is
+//! taken, and one frees it.
 
 ghost use Rattle.std.specs.Prelude.{◌*◌};
 ghost use Rattle.bittle.specs.Shapes.{Fits};
@@ -59,7 +60,7 @@ fn use_bytes(
 
 // Takes page 0 and page 31. Then no page is free.
 fn take_two<B: BitsOwned>(rt: &impl Abort, mut pages: Pages<B>, asked: &Asked) {
-    // One call has counted the members of the map.
+    // When the allocator was made, one call counted the members of the map.
     counts!(rt; asked, 0, 1);
 
     // Page 0 is free. The search for it fetches only the first word.
@@ -127,7 +128,8 @@ fn two_allocators_are_compared_word_by_word(rt: HostRuntime) {
     use_bytes(&rt, Use::Compare, ONES, (4, 1), (4, 1));
 }
 
-// Takes the pages 451 and 508 of 768. Gives back pages 100 to 199, in words 1 to 3, and page 451.
+// Takes pages 451 and 508, the only free ones of 768 pages. Then gives back pages 100 to 199, which
+// lie in words 1 to 3, and page 451.
 fn change_many<B: BitsOwned>(rt: &impl Abort, most: B, asked: &Asked)
     requires { Fits B.indexable B.type_capacity }
 {

@@ -1,5 +1,5 @@
-//! Tests what calls that change a whole set, or a range of it, cost: how many words they fetch, and
-//! how many other calls they make to the words.
+//! Tests of what it costs to change a whole set or a range of it: how many words a call fetches,
+//! and how many other calls it makes to the words.
 
 ghost use Rattle.std.specs.Prelude.{◌≤◌, IsTrue};
 
@@ -9,7 +9,7 @@ use bittle::{BigEndian, BitsOwned};
 use bittle_ext::{BitsCombineExt, BitsCopyExt, BitsOwnedExt, BitsShiftExt, BitsSpanMutExt};
 use std::process::Abort;
 
-// Which calls change the rows.
+// The calls that change the rows.
 #[derive(Drop)]
 enum Kind {
     Ranges,
@@ -79,8 +79,8 @@ fn a_change_of_all_bits_asks_each_element_once(rt: HostRuntime) {
     measure_rows(&rt, Kind::All);
 }
 
-// `complement` takes the set away from the full set. The words of the full set count nothing, and
-// they read those of the set without a counted call.
+// `complement` subtracts the set from a full set. The words of the full set count no calls. They
+// read the words of the set directly, which is not a counted call.
 fn complement<B: BitsOwned>(rt: &impl Abort, few: B, asked: &Asked)
     requires { IsTrue B.indexable }
 {
@@ -109,8 +109,8 @@ fn unite_and_intersect<B: BitsOwned>(rt: &impl Abort, few: &mut B, other: B, ask
     costs!(rt; asked, few.intersect_with(&other), true, 24, 12);
 }
 
-// Changes `few` to its difference and to its symmetric difference with another set. Then copies
-// that set to `few`.
+// Changes `few` to its difference with another set, and then to its symmetric difference with that
+// set. Then copies that set to `few`.
 fn take_away_and_copy<B: BitsOwned>(rt: &impl Abort, few: &mut B, other: B, asked: &Asked)
     requires { IsTrue B.indexable }
 {
@@ -134,10 +134,11 @@ fn shift<B: BitsOwned>(rt: &impl Abort, mut few: B, asked: &Asked)
     costs!(rt; asked, few.shift_down(65), (), 21, 12);
 }
 
-// `rotated_up` and `rotated_down` make each word from two words. `rotate_down` by 200 exchanges 11
-// pairs of words, which rotates the words by three. Then it shifts all bits by 8, and copies the 8
-// bits that pass index 0 to the last word. `rotate_up` by 65 shifts all bits once, and copies the
-// 65 bits of the last two words that pass the end to the first two words.
+// `rotated_up` and `rotated_down` make each new word from two words. `rotate_down` by 200 first
+// exchanges 11 pairs of words, which rotates the row by three words. Then it shifts all bits down
+// by 8, and the 8 bits that pass index 0 are copied to the last word. `rotate_up` by 65 shifts all
+// bits up once. The 65 bits that pass the end come from the last two words and are copied to the
+// first two.
 fn rotate<B: BitsOwned>(rt: &impl Abort, mut few: B, asked: &Asked)
     requires { IsTrue B.indexable }
 {

@@ -1,5 +1,5 @@
-//! Tests what basic calls that read a set cost. Counts and iterators read each word once. Searches
-//! and tests of all bits read the words up to those that decide.
+//! Tests of the costs of basic calls that read a set. Counts and iterators read each word once.
+//! Searches and tests of all bits read the words up to those that decide the result.
 
 ghost use Rattle.std.specs.Prelude.{◌≤◌, IsTrue};
 
@@ -16,7 +16,7 @@ use std::hash::{DefaultHasher, Hash};
 use std::ops::Range;
 use std::process::Abort;
 
-// Which calls read the rows.
+// The calls that read the rows.
 #[derive(Drop)]
 enum Question {
     Counts,
@@ -162,8 +162,8 @@ fn an_iterator_fetches_each_word_once(rt: HostRuntime) {
     measure_rows(&rt, Question::Iterators);
 }
 
-// The set `low` differs from the other two in the first word. Four words of both sides are fetched
-// for one test, and the first word of both again to find the index.
+// The set `low` differs from the other two in the first word. Four words of each set are fetched
+// for one test. Then the first word of each is fetched again to find the index of the difference.
 fn compare<B: BitsOwned>(rt: &impl Abort, left: B, right: B, low: B, asked: &Asked)
     requires { IsTrue B.indexable }
 {

@@ -13,10 +13,10 @@ use bittle::{Bits, BitsMut, BitsOwned, DefaultEndian, Endian};
 use bittle_bits::extension::{Operation, RangeOperation, ReadWords, Sealed};
 use bittle_bits::shape::Shape;
 
-/// Has the members 0 and 31, and in the order `LittleEndian` 7 and 24.
+/// The bytes of a set with the members 0 and 31 (7 and 24 in the order `LittleEndian`).
 pub(crate) const ONES: [u8; 4] = [1, 0, 0, 128];
 
-/// Has all members but 0 and 31, and in the order `LittleEndian` all but 7 and 24.
+/// The bytes of a set with all members but 0 and 31 (all but 7 and 24 in the order `LittleEndian`).
 pub(crate) const ZEROS: [u8; 4] = [254, 255, 255, 127];
 
 /// A set of four bytes. It counts the calls made to it, unless `asked` is `None`.

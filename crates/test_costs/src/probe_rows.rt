@@ -1,4 +1,4 @@
-//! Rows of twelve words that count the calls made to them, and checks of what one call adds.
+//! Rows of twelve words that count the calls made to them, and checks of what one call costs.
 //!
 //! The measured calls are written for any owned set, so each is proved once. The tests make them on
 //! the rows of `measure_rows`. Most tests use `few`: its members 451 and 508 lie in word 7.
@@ -67,10 +67,11 @@ pub(crate) fn measure_rows<M: Measured>(rt: &impl Abort, calls: M) {
     );
 }
 
-/// Has twelve words of 64 bits each, so its capacity is 768.
+/// A row of twelve words. Each word has 64 bits, so the capacity of the row is 768.
 pub(crate) type Row<'a> = [WordProbe<'a>; 12];
 
-/// Has the bits 3 and 60 set. In word 7 of a row these bits have the indexes 451 and 508.
+/// The word in which only bits 3 and 60 are set. In word 7 of a row these bits have the indexes 451
+/// and 508.
 pub(crate) const TWO: u64 = 0x1000_0000_0000_0008;
 
 /// Returns a row in which word 7 is `word` and each other word is `rest`.
@@ -81,7 +82,7 @@ pub(crate) fn row_of(rest: u64, word: u64, asked: &Asked) -> Row<'_> {
 }
 
 /// Checks what a call returns, how many words it fetches, and how many other calls it makes to the
-/// words. Calls of `capacity` do not count. Then it sets the counts to 0.
+/// words. Calls of `capacity` do not count. Then sets the counts to 0.
 macro_rules! costs {
     ($rt:expr; $asked:expr, $call:expr, $returned:expr, $fetched:expr, $other:expr) => {
         $crate::probe_rows::compare_costs(
@@ -99,8 +100,8 @@ macro_rules! costs {
 pub(crate) use costs;
 
 /// Ends the test unless a call returned `wanted`, fetched `fetched` words and made `other` other
-/// calls. Then it sets the counts to 0. It is a function because a call of it is proved in half the
-/// time that its statements take.
+/// calls. Then sets the counts to 0. The statements are in a function because a call of it is
+/// proved in half the time that they take.
 pub(crate) fn compare_costs<T: Compared>(
     rt: &impl Abort,
     text: &str,

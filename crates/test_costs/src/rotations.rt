@@ -17,7 +17,8 @@ enum Move {
     ShiftPastAll,
 }
 
-// Returns a set moved up, and the same set moved down. Tests the counts after each call.
+// Returns `set` moved up, and `set` moved down. Tests the counts after each of the two moves,
+// unless the moves drop all bits.
 fn move_bits<B: BitsOwned>(rt: &impl Abort, kind: Move, set: B, asked: &Asked) -> [B; 2]
     requires { IsTrue B.indexable }
 {
@@ -54,8 +55,8 @@ fn shifted_down_from_left<B: BitsOwned>(set: B) -> B
     Set::new_le(set).shifted_down(8).into_bits()
 }
 
-// Moves the set of `ONES` up, and also down. Tests the bytes that result, and the final counts. The
-// members of `ONES` are 0 and 31, and in the order `LittleEndian` 7 and 24.
+// Moves the set with the bytes `ONES` up, and the same set down. Its members are 0 and 31 (7 and 24
+// in the order `LittleEndian`). Tests the bytes of both results, and the final counts.
 fn move_ones(
     rt: &impl Abort,
     kind: Move,
@@ -78,7 +79,7 @@ fn a_rotation_fetches_each_word_twice(rt: HostRuntime) {
 
 #[test]
 fn a_shift_fetches_each_word_twice_at_most(rt: HostRuntime) {
-    // Each shift makes two words from two words each, and one from one word: five fetches.
+    // Each shift makes two new words from two words each, and a third from one word: five fetches.
     move_ones(&rt, Move::Shift, [0, 2, 0, 0], [0, 0, 128, 0], 10, 8);
 }
 

@@ -1,5 +1,6 @@
-//! Tests how many calls a call on a row makes to its elements. A call for one index makes one call
-//! to the element with this index. Other calls make one call to each element that they need.
+//! Tests of what calls on a row cost: how many calls they make to the elements of the row. A call
+//! for one index makes one call to the element with this index. Most other calls make one call to
+//! each element that they need.
 
 ghost use Rattle.std.specs.Prelude.{IsTrue};
 ghost use Rattle.bittle.specs.Values.{ShapeFits};
@@ -84,7 +85,7 @@ fn changing_a_row_asks_each_element_once(rt: HostRuntime) {
     use_probes(&rt, Use::Changes, 29);
 }
 
-// Returns the set after the bits at the indexes `from..to` are set.
+// Sets the bits at the indexes `from..to`, and returns the changed set.
 fn with_until<B: BitsOwned>(mut set: B, from: u32, to: u32) -> B
     requires { IsTrue B.indexable }
 {
@@ -92,7 +93,7 @@ fn with_until<B: BitsOwned>(mut set: B, from: u32, to: u32) -> B
     set
 }
 
-// Returns the set after the bits at the indexes `from..=to` are set.
+// Sets the bits at the indexes `from..=to`, and returns the changed set.
 fn with_through<B: BitsOwned>(mut set: B, from: u32, to: u32) -> B
     requires { IsTrue B.indexable }
 {
@@ -130,8 +131,8 @@ enum Question {
     HasAll,
 }
 
-// Calls `all_zeros` or `all_ones` on a row. Tests the result, and that `other` calls to the words
-// are made, and no fetch.
+// Calls `all_zeros` or `all_ones` on a row. Tests that the result is `wanted`, that the words
+// receive `other` calls, and that no word is fetched.
 fn ask_words<T: BitsOwned, const N: usize>(
     rt: &impl Abort,
     question: Question,

@@ -43,10 +43,10 @@ fn find<E: Endian>(
     same!(rt; asked.words_once(), Some(words));
 }
 
-// Has the members 4, 8 and 31, and in the order `LittleEndian` 3, 15 and 24.
+// The bytes of a set with the members 4, 8 and 31 (3, 15 and 24 in the order `LittleEndian`).
 const FEW: [u8; 4] = [0x10, 0x01, 0, 0x80];
 
-// Has all members but those of `FEW`, in both orders.
+// The bytes of a set with all members but those of `FEW`, in either bit order.
 const MOST: [u8; 4] = [0xEF, 0xFE, 0xFF, 0x7F];
 
 #[test]

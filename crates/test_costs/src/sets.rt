@@ -25,8 +25,8 @@ enum Use {
     Changes,
 }
 
-// Tests the six forms of an operator. Each makes one call, to the left set or to a copy of it, and
-// none to the right set.
+// Tests the six forms of an operator. Each form makes one call to the left set or to a copy of it,
+// and makes no call to the right set.
 macro_rules! operators {
     ($rt:expr; $left:ident, $one:expr; $right:ident, $other:expr; $operator:tt, $assigning:tt) => {{
         let (mut a, b) = (Set::new($one), Set::new($other));

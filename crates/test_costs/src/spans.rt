@@ -1,4 +1,5 @@
-//! Tests that a call on a range fetches each word of the range below the capacity at most once.
+//! Tests that a call on a range fetches no word past the capacity, and each other word of the range
+//! at most once.
 
 ghost use Rattle.bittle.specs.Values.{ShapeFits};
 
@@ -10,7 +11,7 @@ use bittle::Bits;
 use bittle_ext::prelude::*;
 use std::process::Abort;
 
-// Which calls on ranges read a set.
+// The calls on ranges that read a set.
 #[derive(Drop)]
 enum Question {
     Counts,

@@ -1,5 +1,6 @@
-//! Tests how many words a set with a summary fetches from its map. The summary shows which words
-//! have a bit of one kind, set or unset. The set skips most of the other words.
+//! Tests how many words a set with a summary fetches from its map, which is the set that it wraps.
+//! The summary shows which words have a bit of one kind: either set or unset. Most of the other
+//! words are skipped.
 
 ghost use Rattle.std.specs.Prelude.{IsTrue};
 ghost use Rattle.bittle.specs.Values.{ShapeFits};
@@ -14,7 +15,8 @@ use bittle_ext::{BitsExt, BitsViewExt};
 use bittle_tiers::{Ones, Tiered, Zeros};
 use std::process::Abort;
 
-// Takes page 0 and page 31, until no page is free. Before this, one call counted the taken pages.
+// Takes page 0 and page 31. Then no page is free. When the allocator was made, one call counted the
+// taken pages.
 fn take_two<B: BitsOwned>(rt: &impl Abort, mut pages: Pages<B>, asked: &Asked) {
     let made = asked.fetches();
 
@@ -49,7 +51,7 @@ fn full_words_are_passed_over(rt: HostRuntime) {
     take_two_of_map(&rt, Probe::of(ZEROS, &asked), &asked);
 }
 
-// Which calls are made on one or two sets with a summary.
+// The calls that are made on one or two sets with a summary.
 #[derive(Drop)]
 enum Question {
     Iterators,
@@ -76,8 +78,9 @@ fn ask<B: BitsOwned>(rt: &impl Abort, question: Question, one: B, other: B, aske
     }
 }
 
-// Makes two sets with summaries, and then the calls of a question on them. Tests how many words
-// these calls fetch from either map, and how many other calls they make to the first map.
+// Makes two sets with summaries, and then makes the calls of a question on them. `wanted` is how
+// many words these calls should fetch from the first map and from the second map, and how many
+// other calls they should make to the first map. The second map should get no other call.
 fn ask_tiers<B: BitsOwned, S: BitsOwned>(
     rt: &impl Abort,
     question: Question,
@@ -125,8 +128,8 @@ fn an_iterator_passes_over_words_without_a_bit(rt: HostRuntime) {
     ask_ones(&rt, Question::Iterators, [0; 4], (6, 0, 0));
 }
 
-// Searches for the first set bit from index 1 on, and for the last one below index 30. Then tests
-// whether a bit is set, which fetches no word.
+// Searches for the first set bit from index 1 on, and for the last set bit below index 30. Then
+// tests whether any bit is set, which fetches no word.
 fn search_both_ends<B: Bits>(rt: &impl Abort, set: &B, asked: &Asked)
     requires { ShapeFits B.Shape set.now }
 {
@@ -189,7 +192,7 @@ fn a_row_asks_its_elements(rt: HostRuntime) {
     counts!(rt; asked since made, 6, 0);
 }
 
-// Counts the common members of two sets, and the members that only the first has, with iterators.
+// Uses iterators to count the common members of two sets, and the members that only the first has.
 fn count_both_and_alone<A: Bits, B: Bits>(left: &A, right: &B) -> (usize, usize)
     requires left { ShapeFits A.Shape left.now }
     requires right { ShapeFits B.Shape right.now }
@@ -199,14 +202,14 @@ fn count_both_and_alone<A: Bits, B: Bits>(left: &A, right: &B) -> (usize, usize)
 
 #[test]
 fn a_view_of_two_sets_passes_over_what_either_tells(rt: HostRuntime) {
-    // The second set has a bit in word 2 only. So for the common members only word 2 of both sets
-    // is fetched. For the members that only the first has, words 0 and 3 of both are fetched, and
-    // one between.
+    // Only word 2 of the second set has a set bit. So for the common members only word 2 of both
+    // sets is fetched. For the members that only the first set has, words 0 and 3 of both sets are
+    // fetched, and one word between them.
     ask_ones(&rt, Question::TwoSets, [0, 0, 4, 0], (4, 4, 0));
 }
 
-// Counts the common members of the sets of `ONES` and of `bytes`, with an iterator. The summaries
-// of both have 64 bits. Tests the count, and how many words are fetched from either map.
+// Uses an iterator to count the common members of the sets with the bytes `ONES` and `bytes`. The
+// summary of each set has 64 bits. Tests the count, and how many words are fetched from each map.
 fn ask_common(rt: &impl Abort, bytes: [u8; 4], common: usize, fetched: u32) {
     let (ours, theirs) = (Asked::new(), Asked::new());
     let (one, other) = (Probe::of(ONES, &ours), Probe::of(bytes, &theirs));
@@ -216,13 +219,13 @@ fn ask_common(rt: &impl Abort, bytes: [u8; 4], common: usize, fetched: u32) {
 
 #[test]
 fn a_conjunction_reads_words_that_both_summaries_have(rt: HostRuntime) {
-    // Only the last word has bits of both sets. Only this word is fetched.
+    // Only the last word has a set bit in both sets. Only this word is fetched.
     ask_common(&rt, [0, 4, 0, 128], 1, 1);
-    // The first word has bits of both sets too. After it the next and the last word are fetched.
+    // The first word has a set bit in both sets too. Then the next and the last word are fetched.
     ask_common(&rt, [1, 4, 0, 128], 2, 3);
-    // No word has bits of both sets.
+    // No word has a set bit in both sets.
     ask_common(&rt, [0, 4, 1, 0], 0, 0);
-    // The first word has bits of both sets, but no common member.
+    // The first word has a set bit in both sets, but no common member.
     ask_common(&rt, [2, 0, 4, 0], 0, 1);
 }
 

@@ -1,4 +1,5 @@
-//! Tests that a view fetches only the words of its sets that a call on it needs, each once.
+//! Tests that a call on a view fetches from the sets of the view only the words that it needs, and
+//! each of them once.
 
 ghost use Rattle.std.specs.Prelude.{◌≤◌};
 ghost use Rattle.bittle.specs.Values.{ShapeFits};
@@ -27,7 +28,7 @@ fn an_iterator_over_a_range_fetches_its_words(rt: HostRuntime) {
     counts!(rt; asked, 2, 0);
 }
 
-// Returns whether no index is in both sets.
+// Returns whether two sets have no common member.
 fn are_apart<A: Bits, B: Bits>(left: &A, right: &B) -> bool
     requires left { ShapeFits A.Shape left.now }
     requires right { ShapeFits B.Shape right.now }

@@ -1,6 +1,6 @@
-//! Functions that step iterators over sets. They are generic in the type of the set. So a call of a
-//! function of this file is proved in less time than a call of the iterator itself. For the latter
-//! the prover states the whole contract of the iterator's type.
+//! Functions that step iterators over sets. They are generic in the type of the set, so a call of
+//! one of them is proved in less time than a call of the iterator itself. For a call of the
+//! iterator the prover states the whole contract of the iterator's type.
 
 ghost use Rattle.std.specs.Iterator.{IsFinite};
 ghost use Rattle.bittle.specs.Values.{ShapeFits};

@@ -16,11 +16,11 @@ use std::alloc::AllocError;
 use std::ops::Range;
 use std::process::Abort;
 
-// A step, the item that it should return, and how many words may have been fetched after it.
+// A step, the item that it should yield, and how many words at most may have been fetched after it.
 type Stepped = (Step, Option<u32>, u32);
 
-// Returns whether a step of a walk returns the expected item. It returns `false` if more words than
-// allowed have been fetched, or if another call was made.
+// Returns whether a step of a walk yields the expected item. Returns `false` also if more words
+// than allowed have been fetched, or if a call other than a fetch was made.
 fn answers<W: DoubleEndedIterator<Item = u32>>(
     walk: &mut W,
     asked: &Asked,
@@ -72,8 +72,8 @@ fn yields<W: DoubleEndedIterator<Item = u32> + Drop>(
     answers(&mut walk, asked, (step, None, 12))
 }
 
-// Returns whether a clone that is made after the first step of a walk fetches no word, and whether
-// the clone and the walk then fetch just the three words that are left, each once.
+// Clones a walk after its first step, and steps both to the end. Returns whether cloning fetches no
+// word, and whether both then fetch each of the three words that are left once.
 fn clones_frugally<W: DoubleEndedIterator<Item = u32> + Clone + Drop>(
     mut walk: W,
     asked: &Asked,
@@ -192,7 +192,7 @@ fn walk_of_bytes_passes(form: Form, bytes: [u8; 4], test: Test) -> bool {
 }
 
 // Returns four lists of steps of a walk over four words. The walk has one item in the first word
-// and one in the last. The lists differ in the end, front or back, from which each step is made.
+// and one in the last. The lists differ in the ends (front or back) that the steps are made from.
 fn each_way(first: u32, last: u32) -> [[Stepped; 4]; 4] {
     let (first, last) = (Some(first), Some(last));
     [

@@ -8,7 +8,8 @@ pub(crate) fn draw(state: &mut u32) -> u32 {
     *state >> 8
 }
 
-// Draws an event for a queue of 24 tasks. Half are `Next`. A `Wake` may name a task past the last.
+// Draws an event for a queue of 24 tasks. Half of the events are `Next`. A `Wake` may name a task
+// that does not exist.
 pub(crate) fn draw_event(state: &mut u32) -> Event {
     let number = draw(state);
     if number % 2 == 0 {

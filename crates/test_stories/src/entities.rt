@@ -5,7 +5,8 @@ use crate::drawn::draw;
 use bit_entities::{Answer, Event, World};
 use bittle::{Bits, BitsOwned, LittleEndian, Set};
 
-// Events. Some name a dead entity or a missing component. In a `u8`, entity 9 would wrap to 1.
+// Events. Some name an entity that is not alive, or a component that does not exist. In a `u8`
+// there is no entity 9, and index 9 would wrap to 1.
 const EVENTS: [Event; 13] = [
     Event::Spawn,
     Event::Spawn,
@@ -135,8 +136,8 @@ fn no_entities_and_no_components(rt: HostRuntime) {
     same!(rt; (bare.matching(&[]), bare.matching(&[0])), (1, 0));
 }
 
-// Gives a component to an entity in plain tables of 32 entities, or takes it away. Returns the
-// expected answer.
+// If `is` is `true`, gives a component to an entity in plain tables of 32 entities, else takes it
+// away. Returns the expected answer.
 fn change_tables(
     alive: &[bool; 32],
     has: &mut [[bool; 3]; 32],
@@ -211,7 +212,8 @@ fn visited<B: BitsOwned>(world: &World<B, 3>, required: &[u32]) -> ([bool; 32], 
     (seen, is_same)
 }
 
-// Draws an event. A third are spawns. Some events name a dead entity or a missing component.
+// Draws an event. A third of the events are spawns. Some name an entity that is not alive, or a
+// component that does not exist.
 fn draw_event(state: &mut u32) -> Event {
     let (kind, entity, component) = (draw(state) % 6, draw(state) % 34, draw(state) % 4);
     match kind {
@@ -252,7 +254,8 @@ fn drawn_events_in_the_other_order(rt: HostRuntime) {
     holds!(rt; are_as_tables::<Set<u32, LittleEndian>>(&mut world, 11, 300));
 }
 
-// In a `u8`, entity 9 would wrap to 1. In little-endian order entity 0 is the leftmost bit.
+// In a `u8` there is no entity 9. If index 9 wrapped, it would name entity 1, which is alive. In
+// little-endian order entity 0 is the leftmost bit.
 #[test]
 fn a_world_of_those_of_a_mask(rt: HostRuntime) {
     let mut world = World::<u8, 2>::with_alive(0b1000_1011);

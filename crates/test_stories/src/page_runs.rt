@@ -103,7 +103,7 @@ fn assign(taken: &mut [bool; 16], first: u32, length: u32, value: bool) {
     }
 }
 
-// Returns whether the taken pages of the allocator, and their number, are those of the flags.
+// Returns whether the allocator and the flags agree on which pages are taken, and on their number.
 fn agrees<B: BitsOwned>(pages: &Pages<B>, taken: &[bool; 16]) -> bool {
     let mut count = 0u32;
     for page in 0..16u32 {

@@ -1,4 +1,4 @@
-//! Ready queues: by urgency (`PriorityQueue`) and in turns (`RoundRobin`).
+//! Ready queues: a `PriorityQueue` runs tasks by urgency, and a `RoundRobin` runs them in turns.
 
 ghost use Rattle.bittle.specs.Shapes.{Fits};
 
@@ -41,7 +41,8 @@ fn serve_in_turn<B: BitsOwned>() -> [Answer; 9]
     answers
 }
 
-// Returns the expected answers. The queues differ in which tasks run as the second and the third.
+// Returns the expected answers. Three tasks run. Which ones run second and third depends on the
+// kind of queue.
 fn answers_of(second: u32, third: u32) -> [Answer; 9] {
     [
         Answer::Woken,
@@ -124,8 +125,8 @@ fn a_task_that_is_woken_at_each_step_lets_the_others_run(rt: HostRuntime) {
     }
 }
 
-// Applies an event to an array of flags, and returns the expected answer. The search for a task
-// starts at `from` and wraps around.
+// Applies an event to an array of flags, and returns the expected answer. For `Next`, the search
+// for a ready task starts at task `from` and wraps around.
 fn answer_by_flags(event: Event, from: usize, ready: &mut [bool; 24]) -> Answer {
     match event {
         Event::Wake(task) => match ready.get_mut(task as usize) {

@@ -31,7 +31,7 @@ fn serve<B: BitsOwned>(roles: &mut Roles<B, 4>) -> ([Answer; 8], [(bool, bool); 
     (answers, allowed)
 }
 
-// Returns what `serve` has to return where there are 8 to 200 permissions.
+// Returns what `serve` has to return if there are at least 8 and at most 200 permissions.
 fn expected() -> ([Answer; 8], [(bool, bool); 4]) {
     let mut answers = [Answer::Refused; 8];
     answers[0] = Answer::Done;

@@ -1,5 +1,5 @@
 //! Drawn (pseudo-random) calls on slots, compared with a list. The list has every key that `insert`
-//! returned, its value, and whether it was removed.
+//! returned, the value of the key, and whether the key is still in use.
 
 ghost use Rattle.std.specs.Prelude.{◌≤◌};
 ghost use Rattle.bittle.specs.Shapes.{Fits};
@@ -32,7 +32,7 @@ fn found<B: BitsOwned>(slots: &Slots<u64, B>, key: Option<Key>) -> Option<u64> {
     slots.get(key?).copied()
 }
 
-// Returns whether each key finds what the list says, and whether `len` and `iter` agree with it.
+// Returns whether each key finds what the list says, and `len` and `iter` agree with the list.
 fn agrees<B: BitsOwned>(slots: &Slots<u64, B>, given: &Given) -> bool {
     for step in 0..48 {
         let expected = if given.there[step] {
@@ -47,8 +47,8 @@ fn agrees<B: BitsOwned>(slots: &Slots<u64, B>, given: &Given) -> bool {
     slots.len() == count(given) && walks(slots, given)
 }
 
-// Returns whether an iterator yields exactly the keys that are still in use, each with its value,
-// in the order of their slots.
+// Returns whether `iter` yields exactly the keys that are still in use, each with its value, and
+// whether the slots of these keys ascend.
 fn walks<B: BitsOwned>(slots: &Slots<u64, B>, given: &Given) -> bool {
     let mut next = 0u32;
     let mut yielded = 0u32;
@@ -68,8 +68,8 @@ fn walks<B: BitsOwned>(slots: &Slots<u64, B>, given: &Given) -> bool {
     yielded == count(given)
 }
 
-// Inserts a value. Returns whether the key is a new one. If there is no key, returns whether the
-// value came back and all five slots are in use.
+// Inserts a value. If `insert` returns a key, returns whether the key is new. Else returns whether
+// the value came back and all five slots are in use.
 fn put<B: BitsOwned>(
     slots: &mut Slots<u64, B>,
     given: &mut Given,
