@@ -200,6 +200,19 @@ pub fn count_low(one: u64, other: u64) -> u32
     one.and(&other).within(0, 9).count_ones()
 }
 
+/// Counts the bits below 9 that are set in three words and unset in a fourth. The borrow checker
+/// accepts no longer chain of views of two sets.
+pub fn count_low_of_three(one: u64, other: u64, third: u64, without: u64) -> u32
+    ensures { result ≡ size (members_within (first_only_of (both_of (both_of (bit_set 64 one)
+        (bit_set 64 other)) (bit_set 64 third)) (bit_set 64 without)) 0 9) }
+{
+    one.and(&other)
+        .and(&third)
+        .minus(&without)
+        .within(0, 9)
+        .count_ones()
+}
+
 /// Returns whether each bit below 9 that is set in `one` is set in `other`.
 pub fn covers_low(one: u64, other: u64) -> bool
     ensures { result ≡ (size (first_only_of (members_within (bit_set 64 one) 0 9)
