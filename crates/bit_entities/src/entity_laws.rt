@@ -1,7 +1,7 @@
 //! The main theorems of entities: what holds of every list of events. Each function does nothing:
 //! its contract is the law. The laws speak of the machine in `specs/Entities.antt`. The contract of
-//! `serve` states that `serve` answers as this machine does. The laws also speak of `matching`, the
-//! set that the call `matching` returns.
+//! `serve` states that `serve` answers as this machine does, and leaves the machine's last state.
+//! The laws also speak of `matching`, the set that the call `matching` returns.
 
 ghost use Rattle.bit_entities.specs.EntityLaws.{WorldsStayWorlds, DeadHaveNothing, SpawnedAreNew};
 ghost use Rattle.bit_entities.specs.EntityLaws.{FullExactlyIfAllAreAlive, RefusedChangesNothing};

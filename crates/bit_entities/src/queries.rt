@@ -44,10 +44,10 @@ impl<B: BitsOwned, const N: usize> World<B, N> {
     }
 
     /// Returns the least living entity that is at least `from` and has each of the `required`
-    /// components, or `None` if there is none. A number past the capacity is no entity. The call
-    /// reads the mask of the first required component, from `from` up to the answer. For each
-    /// entity found there it tests one bit of each required mask, up to the first mask that lacks
-    /// the entity.
+    /// components, or `None` if there is none. A number at or past the capacity is no entity. The
+    /// call reads the mask of the first required component (or of the living entities, if none is
+    /// required), from `from` up to the answer. For each entity found there it tests one bit of
+    /// each required mask, up to the first mask that lacks the entity.
     pub fn first_with(&self, required: &[u32], from: u32) -> Option<u32>
         ensures first { IsFirstIn (matching
             (world_of N (set_in B.Shape B.Order.Endian) self.now.alive self.now.components)

@@ -1,6 +1,7 @@
 //! The main theorems of the allocator: what holds of every list of requests. Each function does
 //! nothing: its contract is the law. The laws speak of the machine in `specs/Pages.antt`. The
-//! contract of `serve` states that `serve` answers as this machine does.
+//! contract of `serve` states that `serve` answers as this machine does, and leaves the machine's
+//! last state.
 
 ghost use Rattle.bit_pages.specs.PageLaws.{PagesAreLeastFree, FullExactlyIfAllAreTaken};
 ghost use Rattle.bit_pages.specs.PageLaws.{RunsAreFirst, NoRunExactlyIfNoneIsFree};

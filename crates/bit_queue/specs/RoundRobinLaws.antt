@@ -11,7 +11,7 @@ use Rattle.bit_queue.specs.declared.Answer.{Answer}
 use Rattle.bit_queue.specs.declared.Answer.TheVariants.{Runs, Idle}
 
 -- whether the task `one` comes before the task `other` in turn: the tasks from the turn on come
--- first, in increasing order, and then those before the turn
+-- first, in increasing order, and then those before the turn, in increasing order too
 abbrev pub comes_before : ℕ → ℕ → ℕ → Bool
 comes_before turn one other = if nat_le turn other
     then (nat_le turn one && nat_lt one other)

@@ -1,6 +1,7 @@
 //! The main theorems of `RoundRobin`: what holds of every list of events. Each function does
 //! nothing: its contract is the law. The laws speak of the machine in `specs/RoundRobin.antt`. The
-//! contract of `serve` states that `serve` answers as this machine does.
+//! contract of `serve` states that `serve` answers as this machine does, and leaves the machine's
+//! last state.
 
 ghost use Rattle.bit_queue.specs.RoundRobinLaws.{NextInTurnRuns, RoundIsIdleExactlyIfNoneIsReady};
 ghost use Rattle.bit_queue.specs.RoundRobinLaws.{AnswersAreOfTheirRounds};

@@ -48,8 +48,8 @@ pub enum Answer {
     Refused,
 }
 
-/// The error of a call that names no existing role or permission, or a parent that is not less than
-/// its role.
+/// The error of a call that names a role or a permission that does not exist, or a parent that is
+/// not less than its role.
 #[derive(Clone, Copy, Debug, PartialEq, Eq)]
 pub struct Refused;
 

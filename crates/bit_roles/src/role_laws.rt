@@ -1,7 +1,7 @@
 //! The main theorems of roles: what holds of every list of requests. Each function does nothing:
 //! its contract is the law. The laws speak of the machine in `specs/Roles.antt`. The contract of
-//! `serve` states that `serve` answers as this machine does. The laws also speak of `Allows`, which
-//! the contract of `allows` uses.
+//! `serve` states that `serve` answers as this machine does, and leaves the machine's last state.
+//! The laws also speak of `Allows`, which the contract of `allows` uses.
 
 ghost use Rattle.bit_roles.specs.RoleLaws.{GrantsAreThoseAskedFor, GrantingTakesNothingAway};
 ghost use Rattle.bit_roles.specs.RoleLaws.{ParentsStayLesser, NoChainComesBack};

@@ -55,8 +55,8 @@ impl Key {
         self.slot
     }
 
-    /// Returns the generation of the slot. It is 0 for the first value of a slot that began as
-    /// [`Slot::new`], and each removal of a value adds 1.
+    /// Returns the key's generation. It is 0 for the first value of a slot that began as
+    /// [`Slot::new`], and each removal of a value adds 1 for the slot's next value.
     pub fn generation(self) -> u32
         ensures { result ≡ self.generation }
     {

@@ -23,9 +23,9 @@ pub const PLACE: u32 = 0;
 /// The number that names the component `speed`. An entity has this component if it has a speed.
 pub const SPEED: u32 = 1;
 
-/// Moves each entity that has a place and a speed once: adds its speed to its place. Returns how
-/// many entities moved. All other entities stay. The check proves that each entity that moves is an
-/// index of both tables.
+/// Moves each entity that has a place and a speed once: adds its speed to its place by
+/// `wrapping_add`. Returns how many entities moved. All other entities stay. The check proves that
+/// each entity that moves is an index of both tables.
 pub fn step<B: BitsOwned, const N: usize>(
     world: &World<B, N>,
     places: &mut [i32],
@@ -138,7 +138,8 @@ pub fn spawn_placed<B: BitsOwned>(world: &mut World<B, 2>) -> bool
     }
 }
 
-/// Spawns two entities, and returns them. They differ.
+/// Spawns two entities, and returns them. They differ. Returns `None` if fewer than two numbers are
+/// free.
 pub fn spawn_two<B: BitsOwned, const N: usize>(world: &mut World<B, N>) -> Option<(u32, u32)>
     ensures { IfSome result (λ both. both.0 ≢ both.1) }
 {

@@ -10,7 +10,7 @@ use bit_queue::{Answer, Event, NoTask, PriorityQueue, RoundRobin};
 use bittle::BitsOwned;
 use bittle_tiers::{Ones, Tiered4K};
 
-/// Lets two tasks run, and returns them. They differ.
+/// Lets two tasks run, and returns them. They differ. Returns `None` if fewer than two are ready.
 pub fn run_two<B: BitsOwned>(queue: &mut PriorityQueue<B>) -> Option<(u32, u32)>
     ensures { IfSome result (λ both. both.0 ≢ both.1) }
 {
@@ -41,7 +41,8 @@ pub fn run_and_wake<B: BitsOwned>(turns: &mut RoundRobin<B>) -> bool
     }
 }
 
-/// Lets two tasks run in turn, and returns them. They differ.
+/// Lets two tasks run in turn, and returns them. They differ. Returns `None` if fewer than two are
+/// ready.
 pub fn run_two_in_turn<B: BitsOwned>(turns: &mut RoundRobin<B>) -> Option<(u32, u32)>
     ensures { IfSome result (λ both. both.0 ≢ both.1) }
 {
@@ -50,8 +51,8 @@ pub fn run_two_in_turn<B: BitsOwned>(turns: &mut RoundRobin<B>) -> Option<(u32, 
     Some((first, second))
 }
 
-/// Lets the most urgent ready task run, and takes one step off its entry in `work`. Returns the
-/// task, or `None` if no task is ready.
+/// Lets the most urgent ready task run, and takes one step off its entry in `work`, unless that is
+/// 0. Returns the task, or `None` if no task is ready.
 pub fn run_for(queue: &mut PriorityQueue<u8>, work: &mut [u32; 8]) -> Option<u32>
     ensures task { result ≡ most_urgent (bit_set 8 queue.old.ready) }
     ensures idle { result ≡ None → work.new ≡ work.old }

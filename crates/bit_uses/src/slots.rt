@@ -53,7 +53,7 @@ pub fn copy_values<B: BitsOwned>(slots: &Slots<u64, B>, table: &mut [u64])
 }
 
 /// Returns whether `key` finds a value. If it does, the call counts one more use in the entry of
-/// `uses` at the index of the key's slot.
+/// `uses` at the index of the key's slot, unless that entry is `u64::MAX`.
 pub fn count_use<V: Drop, B: BitsOwned>(slots: &Slots<V, B>, uses: &mut [u64], key: Key) -> bool
     requires { length slots.now.row.slots.now ≤ length uses.old }
     ensures others { (other : ℕ) → other ≢ key.slot

@@ -8,8 +8,8 @@ use Rattle.bittle_bits.specs.Orders.{place, read_in}
 use Rattle.bittle_bits.specs.PlainSet.{PlainSet, ascending, ascending_from}
 use Rattle.bittle.specs.Comparison.{list_eq}
 
--- two sets with no member past their capacity are equal if they have the same capacity, a whole
--- number of words, and the same list of members in one bit order
+-- two sets with no member at or past their capacity are equal if they have the same capacity, a
+-- whole number of words, and the same list of members in one bit order
 pub equal_sets : (mirrored : Bool) (w c : ℕ) → 0 < w → (words : ℕ) × (c ≡ words * w) →
     (s t : PlainSet) → s.capacity ≡ c → t.capacity ≡ c →
     ((i : ℕ) → s.capacity ≤ i → s.has i ≡ false) → ((i : ℕ) → t.capacity ≤ i → t.has i ≡ false) →

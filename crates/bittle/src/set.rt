@@ -28,8 +28,9 @@ mod operators;
 /// [`DefaultEndian`]. Iteration, comparison, hashing and debug text use the remembered order too.
 ///
 /// The wrapped value always fits: its capacity, and that of every array type inside, is below
-/// `u32::MAX`. So a call on the set has at most one condition: if it changes or searches a range,
-/// `from <= to <= capacity`. If a call takes another set of any shape, that set has to fit too.
+/// `u32::MAX`. So a call on the set has at most one condition: if it changes, counts or searches a
+/// range, `from <= to <= capacity`. If a call takes another set of any shape, that set has to fit
+/// too.
 ///
 /// ```
 /// let set = Set::new_le(0b1101_0000u8);

@@ -29,8 +29,9 @@ use crate::walk::{Iter, IterOnes, IterZeros};
 /// this. Calls that count, iterate, join or search require that the shape fits. A call on one index
 /// requires less of a slice: only its element type has to fit, so the call works at any length.
 pub trait Bits: Drop + ReadWords {
-    /// The bit order of calls that name no order. For an integer, an array or a slice it is
-    /// [`DefaultEndian`]. For a `Set` it is the order that the set remembers.
+    /// The bit order of calls that name no order, except [`join_ones`](Bits::join_ones). For an
+    /// integer, an array or a slice it is [`DefaultEndian`]. For a `Set` it is the order that the
+    /// set remembers.
     type Order: Endian;
 
     /// Returns how many bits the set has, or `u32::MAX` if its shape does not fit.
@@ -110,8 +111,8 @@ pub trait Bits: Drop + ReadWords {
     /// Returns `true` if the bit at `index` is set. Indexes follow the bit order `E`. An index past
     /// the capacity wraps. With capacity 0 the call returns `false`.
     ///
-    /// The type has to fit (its capacity is below `u32::MAX`). For a slice, only its element type
-    /// has to fit. The call costs O(1).
+    /// The type has to fit (`bits_capacity() < u32::MAX`). For a slice, only its element type has
+    /// to fit. The call costs O(1).
     ///
     /// ```
     /// 0b1000_0000u8.test_bit_in::<LittleEndian>(0);       // true
@@ -422,8 +423,8 @@ pub trait Bits: Drop + ReadWords {
     }
 
     /// Returns an iterator that yields an item of `iter` for each set bit: the item whose position,
-    /// counted from 0, is the index of the bit. The least index comes first. Indexes follow the bit
-    /// order `E`.
+    /// counted from 0, is the index of the bit. The least index comes first. The iterator ends at
+    /// the first set bit for which `iter` has no item. Indexes follow the bit order `E`.
     ///
     /// The shape has to fit (`bits_capacity() < u32::MAX`). Each word is read at most once. No item
     /// of `iter` past the last of these positions is taken. With capacity 0 the iterator yields

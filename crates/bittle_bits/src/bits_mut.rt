@@ -17,9 +17,9 @@ use crate::operation::{
 pub trait BitsMut: Bits {
     /// Sets the bit at `index`. Indexes follow the bit order `E`. No other bit changes.
     ///
-    /// The type has to fit (its capacity is below `u32::MAX`). For a slice, only its element type
-    /// has to fit. An index past the capacity wraps. With capacity 0 nothing changes. The call
-    /// costs O(1).
+    /// The type has to fit (`bits_capacity() < u32::MAX`). For a slice, only its element type has
+    /// to fit. An index past the capacity wraps. With capacity 0 nothing changes. The call costs
+    /// O(1).
     ///
     /// ```
     /// let mut word = 0u8;
@@ -34,9 +34,9 @@ pub trait BitsMut: Bits {
     /// Clears the bit at `index`, so that it is unset. Indexes follow the bit order `E`. No other
     /// bit changes.
     ///
-    /// The type has to fit (its capacity is below `u32::MAX`). For a slice, only its element type
-    /// has to fit. An index past the capacity wraps. With capacity 0 nothing changes. The call
-    /// costs O(1).
+    /// The type has to fit (`bits_capacity() < u32::MAX`). For a slice, only its element type has
+    /// to fit. An index past the capacity wraps. With capacity 0 nothing changes. The call costs
+    /// O(1).
     ///
     /// ```
     /// let mut word = 0b1000_0001u8;

@@ -25,8 +25,8 @@ pub trait Endian: Drop {
     fn is_mirrored() -> bool
         ensures { result ≡ mirrored };
 
-    /// Returns the place of the bit at `index`: this bit has the weight `2 ^ place`. An index past
-    /// the width of the word wraps.
+    /// Returns the place of the bit at `index`: this bit has the weight `2 ^ place`. An index at or
+    /// past the width of the word wraps.
     ///
     /// ```
     /// LittleEndian::place::<u8>(9);                       // 6
@@ -36,8 +36,8 @@ pub trait Endian: Drop {
         ensures place { result ≡ orders.place mirrored T.width (index % T.width) }
         ensures within { result < T.width };
 
-    /// Returns the word in which only the bit at `index` is set. An index past the width of the
-    /// word wraps.
+    /// Returns the word in which only the bit at `index` is set. An index at or past the width of
+    /// the word wraps.
     ///
     /// ```
     /// LittleEndian::mask::<u8>(9);                        // 0b0100_0000

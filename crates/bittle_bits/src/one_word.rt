@@ -17,7 +17,7 @@ use crate::internal::halves::{halves, joined, on_halves};
 use crate::operation::{Operation, RangeOperation};
 use crate::word::Word;
 
-/// Returns whether the bit at `index` is set. An index past the width of the word wraps.
+/// Returns whether the bit at `index` is set. An index at or past the width of the word wraps.
 #[inline]
 pub fn test_bit<T: Word, E: Endian>(word: T, index: u32) -> bool
     ensures { result ≡ contains (word_in T.Word E.Endian word) index }
@@ -25,7 +25,7 @@ pub fn test_bit<T: Word, E: Endian>(word: T, index: u32) -> bool
     !word.and(T::one_at(E::place::<T>(index))).is_zero()
 }
 
-/// Sets the bit at `index`. An index past the width of the word wraps.
+/// Sets the bit at `index`. An index at or past the width of the word wraps.
 #[inline]
 pub fn set_bit<T: Word, E: Endian>(word: &mut T, index: u32)
     ensures { word_in T.Word E.Endian word.new ≡ with_index
@@ -34,7 +34,7 @@ pub fn set_bit<T: Word, E: Endian>(word: &mut T, index: u32)
     *word = word.or(E::mask::<T>(index));
 }
 
-/// Clears the bit at `index`. An index past the width of the word wraps.
+/// Clears the bit at `index`. An index at or past the width of the word wraps.
 #[inline]
 pub fn clear_bit<T: Word, E: Endian>(word: &mut T, index: u32)
     ensures { word_in T.Word E.Endian word.new ≡ without_index

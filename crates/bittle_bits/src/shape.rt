@@ -1,7 +1,7 @@
 //! The set that a value stands for, stated by ghost members, which only contracts see.
 //!
-//! A struct that is generic over sets has the bound `Shape`, not [`Bits`](crate::bits::Bits). For an
-//! array the checker finds two impls of `Bits`: the impl for arrays, and the impl for every
+//! A struct that is generic over sets has the bound `Shape`, not [`Bits`](crate::bits::Bits). For
+//! an array the checker finds two impls of `Bits`: the impl for arrays, and the impl for every
 //! `T: Integer`. It would have to decide which one applies. Each type has only one impl of `Shape`.
 
 ghost use Rattle.std.specs.Prelude.{ℕ, Bool, List, []};

@@ -28,11 +28,11 @@ abbrev pub AnswersBy : {F : Type 0} → (F → ℕ → Bool → F → Type 0) �
 AnswersBy {F} step keep test =
     (i : ℕ) (b : Bool) (next : F) → step keep i b next → (b ≡ test i) × (next ≡ keep)
 
--- a closure was called once for each member of `before`, in increasing order; `after` has the
--- members for which it returned true
+-- a closure was called once for each member of `before`, in increasing order; `after` has exactly
+-- the members for which it returned true
 pub record Retains {F : Type 0} (step : F → ℕ → Bool → F → Type 0) (keep : F)
     (before after : PlainSet) : Type 0 where
   pub capacity : after.capacity ≡ before.capacity
   pub asked : IsFiltered step keep (ascending before) (ascending after)
-  -- if the closure answers by a test, `after` has the members that pass the test
+  -- if the closure answers by a test, `after` has exactly the members of `before` that pass it
   pub by_test : (test : ℕ → Bool) → AnswersBy step keep test → after ≡ those_passing test before

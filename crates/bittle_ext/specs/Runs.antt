@@ -57,7 +57,8 @@ AreRunsBelow c rs = (length rs ≤ c) × ((k : ℕ) (d : Range ℕ) → k < leng
     ((slice_index_or rs k d).start < (slice_index_or rs k d).end)
     × ((slice_index_or rs k d).end ≤ c))
 
--- r is a run of at least one member, and the numbers right before and right after r are no members
+-- r is a run of at least one member, and ends at or before the capacity; no number below the
+-- capacity that lies right before or right after r is a member
 abbrev pub IsMaximalRun : PlainSet → Range ℕ → Type 0
 IsMaximalRun s r = (r.start < r.end) × (r.end ≤ s.capacity) × HasAllIn s r.start r.end
     × (0 < r.start → s.has (r.start - 1) ≡ false) × (r.end < s.capacity → s.has r.end ≡ false)

@@ -13,8 +13,8 @@ use Rattle.bittle_ext.specs.Views.{decided_until, is_placed, read_back, HoldsBot
 pub whole_words_of : (w c : ℕ) → c % w ≡ 0 → (words : ℕ) × (c ≡ words * w)
 whole_words_of w c whole = (c / w, omega (arith, div-add-mod' c w, whole))
 
--- if s has no member from its capacity on, the set that `read_back` makes of s has none there
--- either
+-- if the capacity of s is whole words, and s has no member from there on, the set that `read_back`
+-- makes of s has none there either
 none_past_back : (m : Bool) (w : ℕ) (s : PlainSet) → 0 < w →
     (words : ℕ) × (s.capacity ≡ words * w) → ((i : ℕ) → s.capacity ≤ i → s.has i ≡ false) →
     (i : ℕ) → s.capacity ≤ i → (read_back m w s).has i ≡ false
@@ -34,16 +34,16 @@ pub none_past_complement : (s : PlainSet) (i : ℕ) → s.capacity ≤ i → (co
 unfolding lacks
 none_past_complement s i past = rw (le-ltb i s.capacity past) refl
 
--- if s has no member from its capacity on, s as read in an order has no bit of either kind (set or
--- unset) there
+-- if the capacity of s is whole words, and s has no member from there on, s as read in an order has
+-- no bit of either kind (set or unset) there
 none_past_kind : (ones m : Bool) (w : ℕ) (s : PlainSet) → 0 < w →
     (words : ℕ) × (s.capacity ≡ words * w) → ((i : ℕ) → s.capacity ≤ i → s.has i ≡ false) →
     (i : ℕ) → s.capacity ≤ i → (ones_or_zeros ones (read_in m w s)).has i ≡ false
 none_past_kind true m w s word whole past = members-past m w s word whole past
 none_past_kind false m w s word whole past = none_past_complement (read_in m w s)
 
--- if s has no member from its capacity on, the set of the bits of one kind (set or unset) in a
--- range of s, read back, has none there either
+-- if the capacity of s is whole words, and s has no member from there on, the set of the bits of
+-- one kind (set or unset) in a range of s, read back, has none there either
 pub none_past_within : (ones m : Bool) (w : ℕ) (s : PlainSet) (from to : ℕ) → 0 < w →
     (words : ℕ) × (s.capacity ≡ words * w) → ((i : ℕ) → s.capacity ≤ i → s.has i ≡ false) →
     (i : ℕ) → s.capacity ≤ i →

@@ -12,9 +12,9 @@ use bittle::{Bits, BitsMut};
 /// order, or in the same set.
 ///
 /// `from..to` are the indexes that are read, and `at` is the first index that is written. Each set
-/// is read in the bit order of its type; a view made by `in_order` has the order that it names. A
-/// bit that is read at or past the capacity counts as unset. Each written bit lies below the
-/// capacity of its set.
+/// is read in the bit order of its type; a view made by `in_order` or `in_order_mut` has the order
+/// that it names. A bit that is read at or past the capacity counts as unset. Each written bit lies
+/// below the capacity of its set.
 pub trait BitsCopyExt: BitsMut {
     /// Copies the bits `from..to` of `other` to the indexes of this set from `at` on. No other bit
     /// changes.

@@ -31,8 +31,7 @@ pub trait BitsMutExt: BitsMut + Sized {
     /// bit order of the type, and an index past the capacity wraps. With capacity 0 nothing
     /// changes, and the call returns `true`.
     ///
-    /// The type has to fit (its capacity is below `u32::MAX`). For a slice, only its element type
-    /// has to fit.
+    /// The type has to fit. For a slice, only its element type has to fit.
     ///
     /// ```
     /// let mut row = [0u16, 1];
@@ -63,8 +62,7 @@ pub trait BitsMutExt: BitsMut + Sized {
     /// bit order of the type, and an index past the capacity wraps. With capacity 0 nothing
     /// changes, and the call returns `false`.
     ///
-    /// The type has to fit (its capacity is below `u32::MAX`). For a slice, only its element type
-    /// has to fit.
+    /// The type has to fit. For a slice, only its element type has to fit.
     ///
     /// ```
     /// let mut row = [0u16, 1];
@@ -93,8 +91,7 @@ pub trait BitsMutExt: BitsMut + Sized {
     /// Sets the bit at `index` if `value` is `true`, else clears it. Indexes follow the bit order
     /// of the type, and an index past the capacity wraps. With capacity 0 nothing changes.
     ///
-    /// The type has to fit (its capacity is below `u32::MAX`). For a slice, only its element type
-    /// has to fit.
+    /// The type has to fit. For a slice, only its element type has to fit.
     ///
     /// ```
     /// let mut word = 0b0001u8;
@@ -118,8 +115,7 @@ pub trait BitsMutExt: BitsMut + Sized {
     /// set before. Indexes follow the bit order of the type, and an index past the capacity wraps.
     /// With capacity 0 nothing changes, and the call returns `false`.
     ///
-    /// The type has to fit (its capacity is below `u32::MAX`). For a slice, only its element type
-    /// has to fit.
+    /// The type has to fit. For a slice, only its element type has to fit.
     ///
     /// ```
     /// let mut word = 0b0001u8;
@@ -141,8 +137,7 @@ pub trait BitsMutExt: BitsMut + Sized {
     /// Flips the bit at `index`. Indexes follow the bit order of the type, and an index past the
     /// capacity wraps. With capacity 0 nothing changes.
     ///
-    /// The type has to fit (its capacity is below `u32::MAX`). For a slice, only its element type
-    /// has to fit.
+    /// The type has to fit. For a slice, only its element type has to fit.
     ///
     /// ```
     /// let mut row = [0u8; 2];
@@ -348,8 +343,7 @@ pub trait BitsMutExt: BitsMut + Sized {
     /// Sets the bit at each index of the slice `indexes`. Indexes follow the bit order of the type,
     /// and an index past the capacity wraps. With capacity 0 nothing changes.
     ///
-    /// The type has to fit (its capacity is below `u32::MAX`). For a slice, only its element type
-    /// has to fit.
+    /// The type has to fit. For a slice, only its element type has to fit.
     ///
     /// ```
     /// let mut row = [0u8; 2];
@@ -371,8 +365,7 @@ pub trait BitsMutExt: BitsMut + Sized {
     /// Indexes follow the bit order of the type, and an index past the capacity wraps. With
     /// capacity 0 nothing changes.
     ///
-    /// The type has to fit (its capacity is below `u32::MAX`). For a slice, only its element type
-    /// has to fit. The iterator has to end.
+    /// The type has to fit. For a slice, only its element type has to fit. The iterator has to end.
     ///
     /// ```
     /// let mut row = [0u8; 2];

@@ -39,8 +39,8 @@ fn combine_within<B: BitsMut, E: Endian, O: RangeOperation>(set: &mut B, index: 
 }
 
 /// Changes the bit at `index` by the operation `O`: `Union` sets it, `Difference` clears it, and
-/// `SymmetricDifference` flips it. An index past the capacity wraps. Returns whether the bit was
-/// set before.
+/// `SymmetricDifference` flips it. An index at or past the capacity wraps. Returns whether the bit
+/// was set before.
 #[inline]
 pub fn combine_bit<B: BitsMut, E: Endian, O: RangeOperation>(set: &mut B, index: u32) -> bool
     requires fits { ShapeFits B.Shape set.old }

@@ -21,7 +21,7 @@ shape_of name =
 abbrev pub header_in_order : Order → Shape → Header
 header_in_order order shape = record { order = order; shape = shape }
 
--- the bit order and the shape that a first line names, or None if the line has another form
+-- the bit order and the shape that a first line names, or None if the line does not name both
 abbrev pub header_of : List ℕ → Option Header
 header_of line =
     if begins_with line (codes "be ") then option_map (header_in_order Big) (shape_of (drop 3 line))

@@ -36,7 +36,7 @@ impl Outcome {
 }
 
 /// Writes the answers to the lines of the script `text`. At the first line that is not understood,
-/// it writes a refusal of that line and stops.
+/// it writes a refusal of that line and stops. For an empty text it writes a refusal of line 1.
 pub fn answer<W: Write>(text: &[u8], output: &mut Output<'_, W>) -> Result<Outcome, WriteFailed>
     requires { length text.now ≤ MOST_BYTES }
     ensures same_writer { output.new.writer.ghost_name ≡ output.old.writer.ghost_name }

@@ -61,7 +61,7 @@ impl Header {
     ghost use Rattle.bittle_script.specs.Headers.{header_of};
 
     /// Returns the bit order and the shape that a line such as `be u8x4` names, or `None` if the
-    /// line has another form.
+    /// line does not name both.
     pub fn parse(line: &[u8]) -> Option<Header>
         ensures { result ≡ header_of line.now }
     {

@@ -25,7 +25,7 @@ const OUTPUT_FAILED: u8 = 1;
 
 /// Reads a script, writes the answers to it, and returns the status that the program ends with. The
 /// status is 0 if each line was understood, 2 if the input or one of its lines was refused, and 1
-/// if the output failed.
+/// if the output failed. An empty input is refused at line 1.
 pub fn run<R: Read, W: Write>(input: &mut R, output: &mut W) -> RunStatus
     ensures status { result ≤ 2 }
     ensures answered { IsRun (R.remaining input.old) (W.contents output.old)

@@ -43,8 +43,9 @@ impl<'a, W: Write> Output<'a, W> {
         }
     }
 
-    /// Adds `bytes` after the bytes that wait. Whenever the buffer is full, its bytes are written.
-    /// If a write fails, only a beginning of all these bytes was written.
+    /// Adds `bytes` after the bytes that wait. Whenever the buffer is full and one more byte is to
+    /// be added, the bytes that wait are written first. If a write fails, only a beginning of all
+    /// these bytes was written.
     pub fn put(&mut self, bytes: &[u8]) -> Result<(), WriteFailed>
         ensures same_writer { self.new.writer.ghost_name ≡ self.old.writer.ghost_name }
         ensures puts { Puts W.contents self.old self.new result bytes.now }

@@ -28,7 +28,8 @@ abbrev pub SameWordsBut : ℕ → PlainSet → PlainSet → ℕ → Type 0
 SameWordsBut w s t k = (j : ℕ) → j ≢ k → j * w < s.capacity → word_of w t j ≡ word_of w s j
 
 -- a search through the words low..high, from the front if the first flag is true and else from the
--- back, stopped at r: at a word with a bit of the kind, or else at the other end
+-- back, stopped at r: at a word with a bit of the kind (from the front word r, from the back word
+-- r - 1), or else at the other end
 abbrev pub StopsAtBit : Bool → Bool → ℕ → PlainSet → ℕ → ℕ → ℕ → Type 0
 StopsAtBit true ones w s low high r = r < high → some_in_word ones w s r ≡ true
 StopsAtBit false ones w s low high r = low < r → some_in_word ones w s (r - 1) ≡ true

@@ -57,7 +57,7 @@ pub fn taken(words: [u64; 64]) -> u32
 }
 
 /// Returns a map in which all pages but `page` are taken. An allocator with this map hands out
-/// `page`.
+/// `page`. A `page` of 4,096 or more wraps.
 pub fn all_but(page: u32) -> Tiered4K<Zeros>
     ensures { row_set 64 64 (bit_set 64) result.map ≡ without_index (full_set 4096) page }
 {

@@ -79,7 +79,7 @@ pub fn place_of_member_of_any<B: BitsOwned>(set: B, wanted: u32) -> Option<usize
 }
 
 /// Returns how many unset bits of any set have an index below `wanted`, in little-endian order.
-/// Returns `None` if the bit at `wanted` is set.
+/// Returns `None` if the bit at `wanted` is set, or if `wanted` is at or past the capacity.
 pub fn place_of_free_of_any<B: BitsOwned>(set: B, wanted: u32) -> Option<usize>
     requires { ShapeFits B.Shape set }
     ensures { result ≡ position (λ i. i == wanted)

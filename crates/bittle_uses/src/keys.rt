@@ -44,8 +44,8 @@ pub fn set_and_ask<B: BitsOwned>(slots: &mut Slots<u64, B>, key: Key, value: u64
     slots.get(key).copied()
 }
 
-/// Adds one to the count of `key`. Returns whether `update` and `contains` agree on whether the key
-/// finds a value. The result is always `true`.
+/// Adds one to the count of `key`, unless the count is `u64::MAX`. Returns whether `update` and
+/// `contains` agree on whether the key finds a value. The result is always `true`.
 pub fn count_and_ask<B: BitsOwned>(slots: &mut Slots<u64, B>, key: Key) -> bool
     ensures { result ≡ true }
 {

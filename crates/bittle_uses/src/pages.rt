@@ -31,7 +31,7 @@ pub fn first_page<B: BitsOwned>() -> Option<u32>
     pages.take()
 }
 
-/// Takes two pages, and returns them. They differ.
+/// Takes two pages, and returns them. They differ. Returns `None` if fewer than two are free.
 pub fn take_two<B: BitsOwned>(pages: &mut Pages<B>) -> Option<(u32, u32)>
     ensures { IfSome result (λ both. both.0 ≢ both.1) }
 {
@@ -109,7 +109,8 @@ pub fn take_page_and_run<B: BitsOwned>(pages: &mut Pages<B>, length: u32) -> Opt
 }
 
 /// Takes two pages, gives the first back, takes a third, and returns the second and the third. They
-/// differ, and two more pages are taken afterwards than before.
+/// differ, and two more pages are taken afterwards than before. Returns `None` if fewer than two
+/// pages are free before.
 pub fn turn_over<B: BitsOwned>(pages: &mut Pages<B>) -> Option<(u32, u32)>
     ensures differ { IfSome result (λ both. both.0 ≢ both.1) }
     ensures count { IfSome result (λ both. size (set_in B.Shape B.Order.Endian pages.new.map)

@@ -54,8 +54,8 @@ fn place<B: BitsOwned>(
     Some(entity)
 }
 
-/// Moves each entity that has a place and a speed and is awake: adds its speed to its place.
-/// Returns how many entities moved.
+/// Moves each entity that has a place and a speed and is awake: adds its speed to its place by
+/// `wrapping_add`. Returns how many entities moved.
 fn step<B: BitsOwned>(world: &World<B, 3>, places: &mut [i32], speeds: &[i32]) -> u32
     requires places { B.type_capacity ≤ length places.old }
     requires speeds { B.type_capacity ≤ length speeds.now }
@@ -84,7 +84,7 @@ fn print_places<B: BitsOwned>(
     Ok(())
 }
 
-/// Makes `many` entities, and prints each.
+/// Makes `many` entities, or fewer if no more numbers are free, and prints each.
 fn print_new<B: BitsOwned>(rt: &HostRuntime, world: &mut World<B, 3>, many: u32) -> io::Result<()> {
     for _ in 0..many {
         if let Some(entity) = world.spawn() {

@@ -279,8 +279,8 @@ fn every_bit_is_flipped(rt: HostRuntime) {
 }
 
 /// Takes out the first set bit, then the last, then the first of those that remain. Returns each of
-/// the three with the set that is left. Then calls `pop_first` and `pop_last` once more, and returns
-/// what they return.
+/// the three with the set that is left. Then calls `pop_first` and `pop_last` once more, and also
+/// returns what they return.
 fn popped<B: BitsOwned>(mut row: B) -> ([(Option<u32>, B); 3], [Option<u32>; 2])
     requires { IsTrue B.indexable }
 {

@@ -151,8 +151,9 @@ fn compare_words<A: Bits, B: Bits, E: Endian>(left: &A, right: &B) -> Ordering
         Some(index) => {
             let is_left = has::<A, E>(left, capacity, index);
             let goes_on = other_goes_on::<A, B, E>(left, right, capacity, other, index, is_left);
-            // The sets differ at `index`. The set that has it as a member comes first exactly if the
-            // other set has a greater member. The `if` compiles to no branch on the bits of the words.
+            // The sets differ at `index`. The set that has it as a member comes first exactly if
+            // the other set has a greater member. The `if` compiles to no branch on the bits of the
+            // words.
             if is_left == goes_on {
                 Ordering::Less
             } else {

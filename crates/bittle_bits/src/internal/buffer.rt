@@ -437,7 +437,8 @@ impl<W: Word, E: Endian> Buffers<W, E> {
     }
 
     /// Scans the word that is buffered at the end opposite to `N`, and takes from it the item that
-    /// is nearest to `N`. The call exchanges head and tail before the scan and after it. Both exchanges together compile to nothing.
+    /// is nearest to `N`. The call exchanges head and tail before the scan and after it. Both
+    /// exchanges together compile to nothing.
     #[inline(always)]
     pub fn scan_across<N: End>(&mut self) -> Option<u32>
         ensures found { ScansFrom N.FRONT (buffer_of (not N.FRONT) self.old) result

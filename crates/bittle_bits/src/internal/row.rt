@@ -65,9 +65,9 @@ fn wrapped(index: u32, capacity: u32) -> u32
 }
 
 // Returns the number of the element that the bit at `index` lies in, and the bit's index within
-// this element. An index past the capacity wraps. With capacity 0 the call returns `None`. If the
-// length is a constant, a division by the length costs less than a test whether the index is past
-// the capacity.
+// this element. An index at or past the capacity wraps. With capacity 0 the call returns `None`. If
+// the length is a constant, a division by the length costs less than a test whether the index is
+// past the capacity.
 #[inline]
 fn locate<T: BitsOwned>(len: usize, index: u32, is_constant: bool) -> Option<(usize, u32)>
     requires { IsTrue T.indexable }
@@ -85,8 +85,8 @@ fn locate<T: BitsOwned>(len: usize, index: u32, is_constant: bool) -> Option<(us
     Some(((within / each) as usize, within % each))
 }
 
-/// Returns whether the bit at `index` of an array or of a slice is set. An index past the capacity
-/// wraps. With capacity 0 the call returns `false`.
+/// Returns whether the bit at `index` of an array or of a slice is set. An index at or past the
+/// capacity wraps. With capacity 0 the call returns `false`.
 #[inline]
 pub fn test_bit<T: BitsOwned, E: Endian>(elements: &[T], index: u32, is_array: bool) -> bool
     requires { IsTrue T.indexable }
@@ -99,7 +99,7 @@ pub fn test_bit<T: BitsOwned, E: Endian>(elements: &[T], index: u32, is_array: b
 }
 
 /// Changes the bit at `index` of an array or of a slice: sets it if `K` is `Ones`, and clears it if
-/// `K` is `Zeros`. An index past the capacity wraps. With capacity 0 nothing changes.
+/// `K` is `Zeros`. An index at or past the capacity wraps. With capacity 0 nothing changes.
 #[inline]
 pub fn put_bit<T: BitsOwned, E: Endian, K: Kind>(elements: &mut [T], index: u32, is_array: bool)
     requires { IsTrue T.indexable }

@@ -79,8 +79,8 @@ pub fn is_full<B: ReadWords>(bits: &B) -> bool
     first_in_words::<B, BigEndian, Zeros>(bits, words).is_none()
 }
 
-/// Returns whether the bit at `index` is set. An index past the capacity wraps. With capacity 0 it
-/// returns `false`.
+/// Returns whether the bit at `index` is set. An index at or past the capacity wraps. With capacity
+/// 0 it returns `false`.
 #[inline]
 pub fn test<B: ReadWords, E: Endian>(bits: &B, index: u32) -> bool
     requires { ShapeFits B.Shape bits.now }
