@@ -4,9 +4,10 @@
 //! `book_again`, `cancel_from` and `paint` have a proof file.
 
 ghost use Rattle.std.specs.Prelude.{◌≡◌, ◌↔◌, ◌==◌, ◌+◌, ◌-◌, ◌<◌, ◌≤◌, ◌||◌, ◌⊎◌, ℕ, true, false};
-ghost use Rattle.std.specs.Prelude.{IfSome, IsTrue, MatchOption};
+ghost use Rattle.std.specs.Prelude.{IfSome, IsTrue, MatchOption, Option};
 ghost use Rattle.bittle.specs.BitPatterns.{bit_set};
-ghost use Rattle.bittle.specs.PlainSet.{contains, size, with_index};
+ghost use Rattle.bittle.specs.PlainSet.{complement, contains, size};
+ghost use Rattle.bittle.specs.PlainSet.{with_index, with_span, without_span};
 ghost use Rattle.bittle.specs.Searches.{IsFirstIn, NoneIn};
 ghost use Rattle.bittle.specs.Values.{ShapeFits};
 ghost use Rattle.bittle_ext.specs.RangeMembers.{HasAllIn, HasSomeIn};
@@ -54,7 +55,11 @@ pub fn hidden_mine(mines: u64, shown: u64) -> Option<u32>
 /// it changes nothing and returns `None`.
 #[tactic(auto, using(bittle_lemmas::proofs::FoundNumbers::not_full_if_found))]
 pub fn take_seat(taken: &mut u64) -> Option<u32>
-    ensures { IfSome result (λ free. size (bit_set 64 taken.old) + free ≡ 63) }
+    ensures free { IfSome result (λ free. size (bit_set 64 taken.old) + free ≡ 63) }
+    ensures seat { let before = bit_set 64 taken.old in
+        (first : Option ℕ) × IsFirstIn (complement before) 0 64 first
+        × MatchOption first (taken.new ≡ taken.old)
+        (λ i. bit_set 64 taken.new ≡ with_index before i) }
 {
     let seat = taken.first_zero()?;
     let free = 63 - Bits::count_ones(taken);
@@ -77,8 +82,9 @@ pub fn is_on_with(lamps: u64, lamp: u32, asked: u32) -> bool
 pub fn take_pages(pages: &mut u64, from: u32, to: u32)
     requires ordered { from ≤ to }
     requires within { to ≤ 64 }
-    ensures { (k : ℕ) → k < 64 → contains (bit_set 64 pages.old) k ≡ true
+    ensures stay { (k : ℕ) → k < 64 → contains (bit_set 64 pages.old) k ≡ true
         → contains (bit_set 64 pages.new) k ≡ true }
+    ensures pages { bit_set 64 pages.new ≡ with_span (bit_set 64 pages.old) from to }
 {
     pages.set_range(from, to);
 }
@@ -88,7 +94,8 @@ pub fn take_pages(pages: &mut u64, from: u32, to: u32)
 pub fn free_pages(pages: &mut u64, from: u32, to: u32)
     requires ordered { from ≤ to }
     requires within { to ≤ 64 }
-    ensures { (k : ℕ) → from ≤ k → k < to → contains (bit_set 64 pages.new) k ≡ false }
+    ensures free { (k : ℕ) → from ≤ k → k < to → contains (bit_set 64 pages.new) k ≡ false }
+    ensures pages { bit_set 64 pages.new ≡ without_span (bit_set 64 pages.old) from to }
 {
     pages.clear_range(from, to);
 }
@@ -241,8 +248,9 @@ pub fn cancel_from(hours: &mut u64, from: u32)
 #[tactic(auto, using(bittle_ext::proofs::CallerSpans::contains_outside_set_span))]
 pub fn book_before(hours: &mut u64, end: u32)
     requires { end ≤ 64 }
-    ensures { (k : ℕ) → end ≤ k → k < 64
+    ensures others { (k : ℕ) → end ≤ k → k < 64
         → contains (bit_set 64 hours.new) k ≡ contains (bit_set 64 hours.old) k }
+    ensures hours { bit_set 64 hours.new ≡ with_span (bit_set 64 hours.old) 0 end }
 {
     hours.set_span(..end);
 }
