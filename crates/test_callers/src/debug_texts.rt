@@ -15,7 +15,7 @@ fn reads<T: Debug>(
     value: &T,
     text: &str,
 ) -> Result<(), AllocError> {
-    same!(rt; format!(in alloc; "{value:?}")?.as_str(), text);
+    same!(*rt; format!(in alloc; "{value:?}")?.as_str(), text);
     Ok(())
 }
 

@@ -1,6 +1,8 @@
 //! Checks for tests. If a function has several checks, each is proved in a tenth of the time of an
-//! `assert_eq!`. A check that fails names its test, and shows the condition as the test writes it.
-//! If `same!` fails, it also shows both values.
+//! `assert_eq!`. If a check fails, the output names its test. After `same!`, it shows both values.
+//! After `holds!`, it shows the condition as the test writes it.
+//!
+//! `same!` has no text, because a check with a text takes three times as long to prove.
 
 use std::fmt::Debug;
 use std::process::Abort;
@@ -8,24 +10,14 @@ use std::process::Abort;
 /// Checks that two values are equal. If they differ, the test ends.
 macro_rules! same {
     ($rt:expr; $left:expr, $right:expr) => {
-        $crate::checks::compare(
-            &$rt,
-            concat!(stringify!($left), " == ", stringify!($right)),
-            $left,
-            $right,
-        )
+        $crate::checks::compare(&$rt, $left, $right)
     };
 }
 
 /// Checks that two arrays of flags are equal. It is proved in less time than `same!` of the arrays.
 macro_rules! same_flags {
     ($rt:expr; $left:expr, $right:expr) => {
-        $crate::checks::compare_flags(
-            &$rt,
-            concat!(stringify!($left), " == ", stringify!($right)),
-            $left,
-            $right,
-        )
+        $crate::checks::compare_flags(&$rt, $left, $right)
     };
 }
 
@@ -41,20 +33,15 @@ pub(crate) use same;
 pub(crate) use same_flags;
 
 /// Ends the test if two values differ, and shows both.
-pub(crate) fn compare<T: PartialEq + Debug + Drop>(rt: &impl Abort, text: &str, left: T, right: T) {
+pub(crate) fn compare<T: PartialEq + Debug + Drop>(rt: &impl Abort, left: T, right: T) {
     if left != right {
-        Err::<(), (T, T)>((left, right)).expect(rt, text)
+        Err::<(), (T, T)>((left, right)).expect(rt, "two values differ")
     }
 }
 
 /// Ends the test if two arrays of flags differ, and shows both.
-pub(crate) fn compare_flags<const N: usize>(
-    rt: &impl Abort,
-    text: &str,
-    left: [bool; N],
-    right: [bool; N],
-) {
-    compare(rt, text, left, right)
+pub(crate) fn compare_flags<const N: usize>(rt: &impl Abort, left: [bool; N], right: [bool; N]) {
+    compare(rt, left, right)
 }
 
 /// Ends the test if a condition does not hold.

@@ -23,7 +23,7 @@ fn put_each_way<B: BitsOwned + Debug>(
     let mut sets = [B::zeros(); 2];
     put_and_ask::<B, BigEndian>(rt, &mut sets[0], big, capacity);
     put_and_ask::<B, LittleEndian>(rt, &mut sets[1], little, capacity);
-    same!(rt; sets, expected);
+    same!(*rt; sets, expected);
 }
 
 // Does what `put_each_way` does, on arrays of two sets. This function and the next one each add one
@@ -114,7 +114,7 @@ fn no_words<E: Endian>(rt: &impl Abort) {
         Reply::Bit(true),
         Reply::Number(0),
     ];
-    same!(rt; replies, expected);
+    same!(*rt; replies, expected);
 }
 
 // Sets one bit of an empty set. Then checks that this bit is set, that just one bit is set, and
@@ -136,5 +136,5 @@ fn put_and_ask<B: BitsMut, E: Endian>(rt: &impl Abort, bits: &mut B, index: u32,
         Reply::Number(1),
         Reply::Number(capacity),
     ];
-    same!(rt; replies, expected);
+    same!(*rt; replies, expected);
 }

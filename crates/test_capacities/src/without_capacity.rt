@@ -27,16 +27,16 @@ fn reads<B: Bits>(rt: &impl Abort, bits: &B) {
 fn reads_nothing<B: Bits>(rt: &impl Abort, bits: &B)
     requires { ShapeFits B.Shape bits.now }
 {
-    same!(rt; bits.count_ones(), 0);
-    same!(rt; bits.count_zeros(), 0);
-    holds!(rt; bits.all_zeros());
-    holds!(rt; bits.all_ones());
+    same!(*rt; bits.count_ones(), 0);
+    same!(*rt; bits.count_zeros(), 0);
+    holds!(*rt; bits.all_zeros());
+    holds!(*rt; bits.all_ones());
     tests_nothing(rt, bits);
-    same_flags!(rt; ones_are_over(bits), [true; 4]);
-    same_flags!(rt; zeros_are_over(bits), [true; 4]);
-    same_flags!(rt; joins_are_over(bits), [true; 3]);
-    same!(rt; bits.count_ones_in_range_in::<BigEndian>(0, 0), 0);
-    same!(rt; bits.count_ones_in_range_in::<LittleEndian>(0, 0), 0);
+    same_flags!(*rt; ones_are_over(bits), [true; 4]);
+    same_flags!(*rt; zeros_are_over(bits), [true; 4]);
+    same_flags!(*rt; joins_are_over(bits), [true; 3]);
+    same!(*rt; bits.count_ones_in_range_in::<BigEndian>(0, 0), 0);
+    same!(*rt; bits.count_ones_in_range_in::<LittleEndian>(0, 0), 0);
 }
 
 // Checks that the calls that test a bit return `false` for each index.
@@ -44,7 +44,7 @@ fn tests_nothing<B: Bits>(rt: &impl Abort, bits: &B)
     requires { IsTrue B.indexable }
 {
     for index in INDEXES {
-        same!(rt; (index, tests_of(bits, index)), (index, [false; 5]));
+        same!(*rt; (index, tests_of(bits, index)), (index, [false; 5]));
     }
 }
 
@@ -243,8 +243,8 @@ fn makes_nothing_without<B: BitsOwned>(rt: &impl Abort, bits: B, index: u32)
 fn yields_nothing<B: BitsOwned>(rt: &impl Abort, bits: B)
     requires { ShapeFits B.Shape bits }
 {
-    same_flags!(rt; owned_ones_are_over(bits), [true; 4]);
-    same_flags!(rt; owned_zeros_are_over(bits), [true; 4]);
+    same_flags!(*rt; owned_ones_are_over(bits), [true; 4]);
+    same_flags!(*rt; owned_zeros_are_over(bits), [true; 4]);
 }
 
 // Returns, for each owning iterator over set bits, whether it yields nothing.
@@ -406,7 +406,7 @@ fn shows<B: Bits>(rt: &impl Abort, alloc: Global, bits: B, text: &str) -> Result
     requires { ShapeFits B.Shape bits }
 {
     let set = Set::new(bits);
-    same!(rt; format!(in alloc; "{set:?}")?.as_str(), text);
+    same!(*rt; format!(in alloc; "{set:?}")?.as_str(), text);
     Ok(())
 }
 
@@ -467,7 +467,7 @@ fn equals_fours<A: BitsOwned, T: BitsOwned>(one: A, other: [T; 4]) -> bool
 fn comes_first<B: BitsOwned>(rt: &impl Abort, alloc: Global, set: B) -> Result<(), AllocError>
     requires { ShapeFits B.Shape set }
 {
-    same!(rt; order_of(set, &Set::new(1u8)), Ordering::Less);
+    same!(*rt; order_of(set, &Set::new(1u8)), Ordering::Less);
     shows(rt, alloc, set, "{}")
 }
 

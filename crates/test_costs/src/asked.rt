@@ -9,10 +9,10 @@ use std::process::Abort;
 /// `since $before`, the first `$before` fetches do not count.
 macro_rules! counts {
     ($rt:expr; $asked:ident, $fetched:expr, $other:expr) => {
-        $asked.compare(&$rt, stringify!($asked), (0, 0), ($fetched, $other))
+        $asked.counts(&$rt, 0, $fetched, $other)
     };
     ($rt:expr; $asked:ident since $before:expr, $fetched:expr, $other:expr) => {
-        $asked.compare(&$rt, stringify!($asked), ($before, 0), ($fetched, $other))
+        $asked.counts(&$rt, $before, $fetched, $other)
     };
 }
 
@@ -72,17 +72,16 @@ impl Asked {
         self.other.get()
     }
 
-    /// Ends the test unless the counts have grown from `before` by `wanted`. Each pair is a number
-    /// of fetches, and a number of other calls.
-    pub(crate) fn compare(
-        &self,
-        rt: &impl Abort,
-        text: &str,
-        before: (u32, u32),
-        wanted: (u32, u32),
-    ) {
-        let other = self.other().wrapping_sub(before.1);
-        end_unless_equal(rt, text, (self.fetched_since(before.0), other), wanted);
+    /// Ends the test unless there were `fetches` fetches after the first `before` ones, and `other`
+    /// other calls.
+    pub(crate) fn counts(&self, rt: &impl Abort, before: u32, fetches: u32, other: u32) {
+        self.compare(rt, "fetches and other calls", before, (fetches, other));
+    }
+
+    /// Ends the test unless there were `wanted.0` fetches after the first `before` ones, and
+    /// `wanted.1` other calls. It shows `text` and both pairs of numbers.
+    pub(crate) fn compare(&self, rt: &impl Abort, text: &str, before: u32, wanted: (u32, u32)) {
+        end_unless_equal(rt, text, (self.fetched_since(before), self.other()), wanted);
     }
 
     /// Returns whether there were at most `words` fetches, and no other calls.

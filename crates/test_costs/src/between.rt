@@ -40,10 +40,10 @@ fn change_by_each_operation<A: BitsMut, B: Bits>(rt: &impl Abort, set: &mut A, o
     requires fits { ShapeFits A.Shape set.old }
     requires other_fits { ShapeFits B.Shape other.now }
 {
-    same!(rt; set.difference_with(other), false);
-    same!(rt; set.symmetric_difference_with(other), true);
-    same!(rt; set.intersect_with(other), true);
-    same!(rt; set.union_with(other), false);
+    same!(*rt; set.difference_with(other), false);
+    same!(*rt; set.symmetric_difference_with(other), true);
+    same!(*rt; set.intersect_with(other), true);
+    same!(*rt; set.union_with(other), false);
 }
 
 // Adds the members that another set has in the order `LittleEndian`, and tests that this changes
@@ -52,7 +52,7 @@ fn add_from_left<A: BitsMut, B: Bits>(rt: &impl Abort, set: &mut A, other: &B)
     requires fits { ShapeFits A.Shape set.old }
     requires other_fits { ShapeFits B.Shape other.now }
 {
-    same!(rt; set.union_with(&other.in_order::<LittleEndian>()), true);
+    same!(*rt; set.union_with(&other.in_order::<LittleEndian>()), true);
 }
 
 // Shifts a set up, and then down.
@@ -79,9 +79,9 @@ fn change_ones(
     let (ours, theirs) = (Asked::new(), Asked::new());
     let mut set = Probe::of(ONES, &ours);
     make_change(rt, kind, &mut set, &Probe::of(other, &theirs));
-    same!(rt; set.bytes, changed);
-    counts!(rt; ours, of_ours.0, of_ours.1);
-    counts!(rt; theirs, of_theirs.0, of_theirs.1);
+    same!(*rt; set.bytes, changed);
+    counts!(*rt; ours, of_ours.0, of_ours.1);
+    counts!(*rt; theirs, of_theirs.0, of_theirs.1);
 }
 
 #[test]

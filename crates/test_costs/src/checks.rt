@@ -1,26 +1,24 @@
-//! The checks of the tests. If a check fails, the output names the test and shows the checked
-//! expression. For `same!` it also shows both values.
+//! Checks for tests. If a function has several checks, each is proved in a tenth of the time of an
+//! `assert_eq!`. If a check fails, the output names its test. After `same!`, it shows both values,
+//! or, if these are tuples, the first parts that differ. After `holds!`, it shows the condition as
+//! the test writes it.
 //!
-//! Each compared type implements `Compared` itself. A call of its `compare` is proved in less time
-//! than a call of a generic function, and in a tenth of the time of an `assert_eq!`.
+//! `same!` has no text, because a check with a text takes three times as long to prove. Each type
+//! that it compares implements `Compared`, so no test proves again that the type can be compared
+//! and printed.
 
 use std::cmp::Ordering;
 use std::fmt::Debug;
 use std::process::Abort;
 
-/// Ends the test unless two values are equal.
+/// Checks that two values are equal. If they differ, the test ends.
 macro_rules! same {
     ($rt:expr; $left:expr, $right:expr) => {
-        $crate::checks::Compared::compare(
-            $left,
-            $right,
-            &$rt,
-            concat!(stringify!($left), " == ", stringify!($right)),
-        )
+        $crate::checks::same_values(&$rt, $left, $right)
     };
 }
 
-/// Ends the test unless a condition holds.
+/// Checks that a condition holds. If it does not, the test ends.
 macro_rules! holds {
     ($rt:expr; $condition:expr) => {
         $crate::checks::ask(&$rt, stringify!($condition), $condition)
@@ -32,8 +30,13 @@ pub(crate) use same;
 
 /// A value that a test compares with the value that it expects.
 pub(crate) trait Compared: Sized {
-    /// Ends the test if the value differs from `wanted`. The message is `text` and both values.
+    /// Ends the test if the value differs from `wanted`. It shows `text` and both values.
     fn compare(self, wanted: Self, rt: &impl Abort, text: &str);
+}
+
+/// Ends the test if a value differs from `wanted`, and shows both.
+pub(crate) fn same_values<T: Compared>(rt: &impl Abort, value: T, wanted: T) {
+    value.compare(wanted, rt, "two values differ")
 }
 
 impl Compared for u32 {
@@ -107,7 +110,7 @@ impl<A: Compared, B: Compared, C: Compared> Compared for (A, B, C) {
     }
 }
 
-/// Ends the test if two values of any type differ. The message is `text` and both values.
+/// Ends the test if two values of any type differ. It shows `text` and both values.
 pub(crate) fn end_unless_equal<T: PartialEq + Debug + Drop>(
     rt: &impl Abort,
     text: &str,
@@ -119,7 +122,7 @@ pub(crate) fn end_unless_equal<T: PartialEq + Debug + Drop>(
     }
 }
 
-/// Ends the test if a condition does not hold. The message is `text`.
+/// Ends the test if a condition does not hold. It shows `text`.
 pub(crate) fn ask(rt: &impl Abort, text: &str, condition: bool) {
     if !condition {
         rt.panic(text)

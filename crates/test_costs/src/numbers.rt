@@ -31,13 +31,13 @@ fn read<B: Bits>(
     requires { ShapeFits B.Shape set.now }
 {
     match reading {
-        Reading::Number => holds!(rt; set.load(4, 16) == 0xFFFF),
+        Reading::Number => holds!(*rt; set.load(4, 16) == 0xFFFF),
         Reading::Text => {
             let _ = set.binary_text();
         }
         Reading::PrintedText => {
             let text = format!(in alloc; "{}", set.binary_text())?;
-            holds!(rt; text.as_str() == "10000000000000000000000000000001");
+            holds!(*rt; text.as_str() == "10000000000000000000000000000001");
         }
     }
     Ok(())
@@ -53,7 +53,7 @@ fn read_bytes(
 ) -> Result<(), AllocError> {
     let asked = Asked::new();
     read(rt, alloc, reading, &Probe::of(bytes, &asked))?;
-    counts!(rt; asked, fetched, 0);
+    counts!(*rt; asked, fetched, 0);
     Ok(())
 }
 
@@ -110,9 +110,9 @@ fn write_bytes(
     let (ours, theirs) = (Asked::new(), Asked::new());
     let mut set = Probe::of(bytes, &ours);
     write(writing, &mut set, &Probe::of(ONES, &theirs));
-    same!(rt; set.bytes, written);
-    counts!(rt; ours, of_ours, 3);
-    counts!(rt; theirs, of_theirs, 0);
+    same!(*rt; set.bytes, written);
+    counts!(*rt; ours, of_ours, 3);
+    counts!(*rt; theirs, of_theirs, 0);
 }
 
 #[test]

@@ -33,7 +33,7 @@ fn use_pages<B: BitsOwned>(rt: &impl Abort, kind: Use, map: B, other: B, asked: 
         Use::GiveBack => give_one_back(rt, pages, asked),
         Use::Count => count(rt, pages),
         Use::Serve => serve_three(rt, pages),
-        Use::Compare => holds!(rt; pages.same_pages(&Pages::with_taken(other))),
+        Use::Compare => holds!(*rt; pages.same_pages(&Pages::with_taken(other))),
     }
 }
 
@@ -54,25 +54,25 @@ fn use_bytes(
         Probe::of(ONES, &theirs),
         &ours,
     );
-    counts!(rt; ours, of_ours.0, of_ours.1);
-    counts!(rt; theirs, of_theirs.0, of_theirs.1);
+    counts!(*rt; ours, of_ours.0, of_ours.1);
+    counts!(*rt; theirs, of_theirs.0, of_theirs.1);
 }
 
 // Takes page 0 and page 31. Then no page is free.
 fn take_two<B: BitsOwned>(rt: &impl Abort, mut pages: Pages<B>, asked: &Asked) {
     // When the allocator was made, one call counted the members of the map.
-    counts!(rt; asked, 0, 1);
+    counts!(*rt; asked, 0, 1);
 
     // Page 0 is free. The search for it fetches only the first word.
-    same!(rt; pages.take(), Some(0));
-    counts!(rt; asked, 1, 2);
+    same!(*rt; pages.take(), Some(0));
+    counts!(*rt; asked, 1, 2);
 
     // Now only page 31 is free. The search for it fetches all four words.
-    same!(rt; pages.take(), Some(31));
-    counts!(rt; asked, 5, 3);
+    same!(*rt; pages.take(), Some(31));
+    counts!(*rt; asked, 5, 3);
 
     // Now no page is free. The allocator knows this from its count of taken pages.
-    same!(rt; pages.take(), None);
+    same!(*rt; pages.take(), None);
 }
 
 #[test]
@@ -82,13 +82,13 @@ fn taking_a_page_is_a_search_and_a_call(rt: HostRuntime) {
 
 // Gives page 31 back, and then two numbers that are not taken pages.
 fn give_one_back<B: BitsOwned>(rt: &impl Abort, mut pages: Pages<B>, asked: &Asked) {
-    holds!(rt; pages.give_back(31).is_ok());
-    counts!(rt; asked, 0, 3);
+    holds!(*rt; pages.give_back(31).is_ok());
+    counts!(*rt; asked, 0, 3);
 
     // Page 9 is not taken, and there is no page 32.
-    holds!(rt; pages.give_back(9).is_err());
-    counts!(rt; asked, 0, 4);
-    holds!(rt; pages.give_back(32).is_err());
+    holds!(*rt; pages.give_back(9).is_err());
+    counts!(*rt; asked, 0, 4);
+    holds!(*rt; pages.give_back(32).is_err());
 }
 
 #[test]
@@ -98,9 +98,9 @@ fn giving_a_page_back_is_two_calls(rt: HostRuntime) {
 
 // Tests how many pages there are, how many of them are taken, and how many are free.
 fn count<B: BitsOwned>(rt: &impl Abort, pages: Pages<B>) {
-    same!(rt; pages.pages(), 32);
-    same!(rt; pages.taken(), 2);
-    same!(rt; pages.free(), 30);
+    same!(*rt; pages.pages(), 32);
+    same!(*rt; pages.taken(), 2);
+    same!(*rt; pages.free(), 30);
 }
 
 #[test]
@@ -115,7 +115,7 @@ fn serve_three<B: BitsOwned>(rt: &impl Abort, mut pages: Pages<B>) {
         &[Request::GiveBack(0), Request::Take, Request::GiveBack(9)],
         &mut answers,
     );
-    holds!(rt; answers == [Answer::Given, Answer::Page(0), Answer::NotTaken]);
+    holds!(*rt; answers == [Answer::Given, Answer::Page(0), Answer::NotTaken]);
 }
 
 #[test]

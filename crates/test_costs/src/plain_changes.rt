@@ -85,7 +85,7 @@ fn complement<B: BitsOwned>(rt: &impl Abort, few: B, asked: &Asked)
     requires { IsTrue B.indexable }
 {
     let _ = few.complement();
-    counts!(rt; asked, 0, 0);
+    counts!(*rt; asked, 0, 0);
 }
 
 #[test]

@@ -112,6 +112,6 @@ pub(crate) fn compare_costs<T: Compared>(
     other: u32,
 ) {
     returned.compare(wanted, rt, text);
-    asked.compare(rt, text, (0, 0), (fetched, other));
+    asked.compare(rt, text, 0, (fetched, other));
     asked.restart();
 }

@@ -67,9 +67,9 @@ fn move_ones(
 ) {
     let asked = Asked::new();
     let [up, down] = move_bits(rt, kind, Probe::of(ONES, &asked), &asked);
-    same!(rt; up.bytes, moved_up);
-    same!(rt; down.bytes, moved_down);
-    counts!(rt; asked, fetched, other);
+    same!(*rt; up.bytes, moved_up);
+    same!(*rt; down.bytes, moved_down);
+    counts!(*rt; asked, fetched, other);
 }
 
 #[test]

@@ -46,18 +46,18 @@ fn use_any_row<T: BitsOwned>(rt: &impl Abort, kind: Use, row: [T; 9], asked: &As
 fn use_probes(rt: &impl Abort, kind: Use, other: u32) {
     let asked = Asked::new();
     use_any_row(rt, kind, [Probe::of(ONES, &asked); 9], &asked);
-    counts!(rt; asked, 0, other);
+    counts!(*rt; asked, 0, other);
 }
 
 // Reads a row. Tests what each call returns, and how many calls its elements have received.
 fn read<B: Bits>(rt: &impl Abort, row: &B, asked: &Asked)
     requires { ShapeFits B.Shape row.now }
 {
-    same!(rt; row.count_ones(), 18);
-    same!(rt; asked.other(), 9);
-    same!(rt; row.test_bit(32), true);
-    same!(rt; asked.other(), 10);
-    same!(rt; row.all_ones(), false);
+    same!(*rt; row.count_ones(), 18);
+    same!(*rt; asked.other(), 9);
+    same!(*rt; row.test_bit(32), true);
+    same!(*rt; asked.other(), 10);
+    same!(*rt; row.all_ones(), false);
 }
 
 #[test]
@@ -71,13 +71,13 @@ fn change<B: BitsOwned>(rt: &impl Abort, mut row: B, asked: &Asked)
 {
     row.set_bit(40);
     row.clear_bit(41);
-    same!(rt; asked.other(), 2);
+    same!(*rt; asked.other(), 2);
     let other = row;
     row.union_assign(&other);
-    same!(rt; asked.other(), 11);
+    same!(*rt; asked.other(), 11);
     row.clear_bits();
-    same!(rt; asked.other(), 20);
-    same!(rt; row.all_zeros(), true);
+    same!(*rt; asked.other(), 20);
+    same!(*rt; row.all_zeros(), true);
 }
 
 #[test]
@@ -145,8 +145,8 @@ fn ask_words<T: BitsOwned, const N: usize>(
         Question::HasNone => row.all_zeros(),
         Question::HasAll => row.all_ones(),
     };
-    same!(rt; answer, wanted);
-    counts!(rt; asked, 0, other);
+    same!(*rt; answer, wanted);
+    counts!(*rt; asked, 0, other);
 }
 
 fn slice_has_none<T: BitsOwned>(words: &[T]) -> bool {

@@ -39,8 +39,8 @@ fn find<E: Endian>(
         Search::FirstZero => set.first_zero_in::<E>(from, to),
         Search::LastZero => set.last_zero_in::<E>(from, to),
     };
-    same!(rt; found, wanted);
-    same!(rt; asked.words_once(), Some(words));
+    same!(*rt; found, wanted);
+    same!(*rt; asked.words_once(), Some(words));
 }
 
 // The bytes of a set with the members 4, 8 and 31 (3, 15 and 24 in the order `LittleEndian`).
@@ -97,16 +97,16 @@ fn ask<B: BitsOwned>(rt: &impl Abort, question: Question, row: B, asked: &Asked)
 {
     match question {
         Question::Last => {
-            same!(rt; row.last_one_in::<BigEndian>(0, 96), None);
-            holds!(rt; asked.is_at_most(12));
+            same!(*rt; row.last_one_in::<BigEndian>(0, 96), None);
+            holds!(*rt; asked.is_at_most(12));
         }
         Question::First => {
-            same!(rt; row.first_one_in::<BigEndian>(0, 96), None);
-            holds!(rt; asked.is_at_most(12));
+            same!(*rt; row.first_one_in::<BigEndian>(0, 96), None);
+            holds!(*rt; asked.is_at_most(12));
         }
         Question::Count => {
-            same!(rt; row.count_ones_in_range_in::<LittleEndian>(9, 90), 81);
-            counts!(rt; asked, 11, 0);
+            same!(*rt; row.count_ones_in_range_in::<LittleEndian>(9, 90), 81);
+            counts!(*rt; asked, 11, 0);
         }
     }
 }

@@ -47,28 +47,28 @@ macro_rules! operators {
 fn unite<B: BitsOwned>(rt: &impl Abort, one: B, left: &Asked, other: B, right: &Asked)
     requires { IsTrue B.indexable }
 {
-    operators!(rt; left, one; right, other; |, |=);
+    operators!(*rt; left, one; right, other; |, |=);
 }
 
 // Intersects two sets.
 fn conjoin<B: BitsOwned>(rt: &impl Abort, one: B, left: &Asked, other: B, right: &Asked)
     requires { IsTrue B.indexable }
 {
-    operators!(rt; left, one; right, other; &, &=);
+    operators!(*rt; left, one; right, other; &, &=);
 }
 
 // Takes the symmetric difference of two sets.
 fn toggle<B: BitsOwned>(rt: &impl Abort, one: B, left: &Asked, other: B, right: &Asked)
     requires { IsTrue B.indexable }
 {
-    operators!(rt; left, one; right, other; ^, ^=);
+    operators!(*rt; left, one; right, other; ^, ^=);
 }
 
 // Subtracts the second set from the first.
 fn subtract<B: BitsOwned>(rt: &impl Abort, one: B, left: &Asked, other: B, right: &Asked)
     requires { IsTrue B.indexable }
 {
-    operators!(rt; left, one; right, other; -, -=);
+    operators!(*rt; left, one; right, other; -, -=);
 }
 
 // Tests that a clone of a set succeeds.
@@ -76,7 +76,7 @@ fn clone_set<B: BitsOwned>(rt: &impl Abort, bits: B)
     requires { IsTrue B.indexable }
 {
     let set = Set::new(bits);
-    holds!(rt; set.clone().is_ok());
+    holds!(*rt; set.clone().is_ok());
 }
 
 // Hashes a set.
@@ -92,7 +92,7 @@ fn print_set<B: BitsOwned>(rt: &impl Abort, alloc: Global, bits: B) -> Result<()
 {
     let set = Set::new(bits);
     let text = format!(in alloc; "{set:?}")?;
-    holds!(rt; text.as_str() == "{0, 31}");
+    holds!(*rt; text.as_str() == "{0, 31}");
     Ok(())
 }
 
@@ -100,18 +100,18 @@ fn print_set<B: BitsOwned>(rt: &impl Abort, alloc: Global, bits: B) -> Result<()
 fn read<B: BitsOwned>(rt: &impl Abort, set: &B, asked: &Asked)
     requires { IsTrue B.indexable }
 {
-    same!(rt; set.count_ones(), 2);
-    same!(rt; asked.other(), 1);
-    same!(rt; set.count_zeros(), 30);
-    same!(rt; asked.other(), 2);
-    same!(rt; set.all_zeros(), false);
-    same!(rt; asked.other(), 3);
-    same!(rt; set.all_ones(), false);
-    same!(rt; asked.other(), 4);
-    same!(rt; set.test_bit(31), true);
-    same!(rt; asked.other(), 5);
-    same!(rt; set.bits_capacity(), 32);
-    counts!(rt; asked, 0, 5);
+    same!(*rt; set.count_ones(), 2);
+    same!(*rt; asked.other(), 1);
+    same!(*rt; set.count_zeros(), 30);
+    same!(*rt; asked.other(), 2);
+    same!(*rt; set.all_zeros(), false);
+    same!(*rt; asked.other(), 3);
+    same!(*rt; set.all_ones(), false);
+    same!(*rt; asked.other(), 4);
+    same!(*rt; set.test_bit(31), true);
+    same!(*rt; asked.other(), 5);
+    same!(*rt; set.bits_capacity(), 32);
+    counts!(*rt; asked, 0, 5);
 }
 
 // Changes a set by one call of each kind.
@@ -177,8 +177,8 @@ fn use_probes(
     let (left, right) = (Asked::new(), Asked::new());
     let (one, other) = (Probe::of(ONES, &left), Probe::of(ZEROS, &right));
     use_sets(rt, alloc, kind, one, &left, other, &right)?;
-    counts!(rt; left, of_ones.0, of_ones.1);
-    counts!(rt; right, of_zeros.0, of_zeros.1);
+    counts!(*rt; left, of_ones.0, of_ones.1);
+    counts!(*rt; right, of_zeros.0, of_zeros.1);
     Ok(())
 }
 

@@ -26,18 +26,18 @@ fn ask<B: Bits>(rt: &impl Abort, question: Question, set: &B)
 {
     match question {
         Question::Counts => {
-            same!(rt; set.count_ones_in_span(16..900), 1);
-            same!(rt; set.count_zeros_in_range(40, 900), 0);
+            same!(*rt; set.count_ones_in_span(16..900), 1);
+            same!(*rt; set.count_zeros_in_range(40, 900), 0);
         }
         Question::Searches => {
-            same!(rt; set.first_one_in_span(..), Some(0));
-            same!(rt; set.last_one_in_range(8, 99), Some(31));
+            same!(*rt; set.first_one_in_span(..), Some(0));
+            same!(*rt; set.last_one_in_range(8, 99), Some(31));
         }
         Question::Tests => {
-            same!(rt; set.all_in_range(0, 33), false);
-            same!(rt; set.all_in_span(40..=39), true);
+            same!(*rt; set.all_in_range(0, 33), false);
+            same!(*rt; set.all_in_span(40..=39), true);
         }
-        Question::Iterator => same!(rt; count_owned(set.iter_ones_in_span(16..)), 1),
+        Question::Iterator => same!(*rt; count_owned(set.iter_ones_in_span(16..)), 1),
     }
 }
 
@@ -45,7 +45,7 @@ fn ask<B: Bits>(rt: &impl Abort, question: Question, set: &B)
 fn ask_ones(rt: &impl Abort, question: Question, fetched: u32) {
     let asked = Asked::new();
     ask(rt, question, &Probe::of(ONES, &asked));
-    counts!(rt; asked, fetched, 0);
+    counts!(*rt; asked, fetched, 0);
 }
 
 #[test]

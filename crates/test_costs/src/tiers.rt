@@ -22,17 +22,17 @@ fn take_two<B: BitsOwned>(rt: &impl Abort, mut pages: Pages<B>, asked: &Asked) {
 
     // Page 0 is free. The search fetches the first word, and the update of the summary fetches it
     // again.
-    same!(rt; pages.take(), Some(0));
-    counts!(rt; asked since made, 2, 2);
+    same!(*rt; pages.take(), Some(0));
+    counts!(*rt; asked since made, 2, 2);
 
     // Now only page 31 is free. The search fetches the first and the last word, and skips the two
     // between. The update of the summary fetches the last word again.
-    same!(rt; pages.take(), Some(31));
-    counts!(rt; asked since made, 5, 3);
+    same!(*rt; pages.take(), Some(31));
+    counts!(*rt; asked since made, 5, 3);
 
     // Now no page is free. The allocator knows this from its count of taken pages.
-    same!(rt; pages.take(), None);
-    counts!(rt; asked since made, 5, 3);
+    same!(*rt; pages.take(), None);
+    counts!(*rt; asked since made, 5, 3);
 }
 
 // Takes pages of a map of four words. Its summary shows which words have an unset bit.
@@ -41,7 +41,7 @@ fn take_two_of_map<B: BitsOwned>(rt: &impl Abort, map: B, asked: &Asked)
 {
     let map = Tiered::<B, u8, Zeros>::new(map);
     // Each of the four words was fetched once to make the summary.
-    counts!(rt; asked, 4, 0);
+    counts!(*rt; asked, 4, 0);
     take_two(rt, Pages::with_taken(map), asked);
 }
 
@@ -68,11 +68,11 @@ fn ask<B: BitsOwned>(rt: &impl Abort, question: Question, one: B, other: B, aske
     requires { IsTrue B.indexable }
 {
     match question {
-        Question::Iterators => same!(rt; count_of_set(one), (2, 2)),
+        Question::Iterators => same!(*rt; count_of_set(one), (2, 2)),
         Question::Searches => search_both_ends(rt, &one, asked),
         Question::ChangeOfBit => change_bit(rt, one, asked),
-        Question::TwoSets => same!(rt; count_both_and_alone(&one, &other), (0, 2)),
-        Question::Common(wanted) => same!(rt; count_ones(&one.and(&other)), wanted),
+        Question::TwoSets => same!(*rt; count_both_and_alone(&one, &other), (0, 2)),
+        Question::Common(wanted) => same!(*rt; count_ones(&one.and(&other)), wanted),
         Question::Views => count_in_views(rt, &one),
         Question::Runs => look_for_runs(rt, &one),
     }
@@ -96,8 +96,8 @@ fn ask_tiers<B: BitsOwned, S: BitsOwned>(
     let other = Tiered::<B, S, Ones>::new(other);
     let (of_ours, of_theirs) = (ours.fetches(), theirs.fetches());
     ask(rt, question, one, other, ours);
-    counts!(rt; ours since of_ours, wanted.0, wanted.2);
-    counts!(rt; theirs since of_theirs, wanted.1, 0);
+    counts!(*rt; ours since of_ours, wanted.0, wanted.2);
+    counts!(*rt; theirs since of_theirs, wanted.1, 0);
 }
 
 // Does the same as `ask_tiers` for the maps of `ONES` and of `bytes`.
@@ -135,10 +135,10 @@ fn search_both_ends<B: Bits>(rt: &impl Abort, set: &B, asked: &Asked)
 {
     let made = asked.fetches();
     let capacity = set.bits_capacity();
-    same!(rt; set.first_one_in::<BigEndian>(1.min(capacity), capacity), Some(31));
-    same!(rt; set.last_one_in::<BigEndian>(0, 30.min(capacity)), Some(0));
-    counts!(rt; asked since made, 4, 0);
-    holds!(rt; !set.all_zeros());
+    same!(*rt; set.first_one_in::<BigEndian>(1.min(capacity), capacity), Some(31));
+    same!(*rt; set.last_one_in::<BigEndian>(0, 30.min(capacity)), Some(0));
+    counts!(*rt; asked since made, 4, 0);
+    holds!(*rt; !set.all_zeros());
 }
 
 #[test]
@@ -154,7 +154,7 @@ fn change_bit<B: BitsOwned>(rt: &impl Abort, mut set: B, asked: &Asked)
 
     // After a bit is set, its word has a set bit. So the summary is updated without a fetch.
     set.set_bit(9);
-    counts!(rt; asked since made, 0, 1);
+    counts!(*rt; asked since made, 0, 1);
     set.clear_bit(9);
 }
 
@@ -235,9 +235,9 @@ fn count_in_views<B: Bits>(rt: &impl Abort, set: &B)
     requires { ShapeFits B.Shape set.now }
 {
     let capacity = set.bits_capacity();
-    same!(rt; count_ones(&set.within(8.min(capacity), capacity)), 1);
-    same!(rt; count_zeros(&set.complement_view()), 2);
-    same!(rt; count_ones(&set.in_order::<LittleEndian>()), 2);
+    same!(*rt; count_ones(&set.within(8.min(capacity), capacity)), 1);
+    same!(*rt; count_zeros(&set.complement_view()), 2);
+    same!(*rt; count_ones(&set.in_order::<LittleEndian>()), 2);
 }
 
 #[test]
@@ -251,8 +251,8 @@ fn views_of_one_set_pass_over_what_it_tells(rt: HostRuntime) {
 fn look_for_runs<B: Bits>(rt: &impl Abort, set: &B)
     requires { ShapeFits B.Shape set.now }
 {
-    same!(rt; set.first_one_run(2), None);
-    same!(rt; set.next_one_run(1, 1), Some(31));
+    same!(*rt; set.first_one_run(2), None);
+    same!(*rt; set.next_one_run(1, 1), Some(31));
 }
 
 #[test]

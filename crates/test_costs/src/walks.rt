@@ -227,7 +227,7 @@ fn each_way(first: u32, last: u32) -> [[Stepped; 4]; 4] {
 // walk are `first` and `last`.
 fn step_each_way(rt: &impl Abort, form: Form, bytes: [u8; 4], first: u32, last: u32) {
     for steps in each_way(first, last) {
-        holds!(rt; walk_of_bytes_passes(form, bytes, Test::Steps(steps)));
+        holds!(*rt; walk_of_bytes_passes(form, bytes, Test::Steps(steps)));
     }
 }
 
@@ -307,8 +307,8 @@ fn join<B: BitsOwned>(
 {
     let mut join = mask.join_ones(numbers);
     for (item, words) in steps {
-        same!(rt; next_joined(&mut join), item);
-        holds!(rt; asked.is_at_most(words));
+        same!(*rt; next_joined(&mut join), item);
+        holds!(*rt; asked.is_at_most(words));
     }
 }
 

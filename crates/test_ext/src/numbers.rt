@@ -157,7 +157,7 @@ fn agree_at<B: BitsOwned, E: Endian>(rt: &impl Abort, set: B, first: u32, count:
     requires { IsTrue B.indexable }
 {
     let number = loaded_in::<B, E>(set, first, count);
-    crate::checks::compare(rt, "load", number, by_bits::<B, E>(&set, first, count));
+    crate::checks::end_unless_equal(rt, "load", number, by_bits::<B, E>(&set, first, count));
     if first <= B::bits() && count <= B::bits() - first {
         let value = 0xC5A3_9F71_0E68_D24B;
         let made = stored_in::<B, E>(set, first, count, value);
@@ -168,7 +168,7 @@ fn agree_at<B: BitsOwned, E: Endian>(rt: &impl Abort, set: B, first: u32, count:
         );
         let back = loaded_in::<B, E>(made, first, count);
         let low = by_bits::<u64, BigEndian>(&value, 0, count);
-        crate::checks::compare(rt, "what is stored", back, low);
+        crate::checks::end_unless_equal(rt, "what is stored", back, low);
     }
 }
 

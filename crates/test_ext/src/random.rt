@@ -59,7 +59,7 @@ fn change_one<B: BitsMut>(
             ("toggle", before)
         }
     };
-    crate::checks::compare(rt, call, was_set, before);
+    crate::checks::end_unless_equal(rt, call, was_set, before);
     flags[at] = match kind {
         0 => true,
         1 => false,
@@ -113,7 +113,7 @@ fn take_one<B: BitsMut>(rt: &impl Abort, kind: u32, row: &mut B, flags: &mut [bo
         1 => row.pop_last(),
         _ => row.take_first_zero(),
     };
-    crate::checks::compare(rt, "an end is taken", taken, found);
+    crate::checks::end_unless_equal(rt, "an end is taken", taken, found);
 }
 
 #[test]

@@ -18,7 +18,7 @@ fn reads<B: Bits>(rt: &impl Abort, alloc: Global, set: &B, text: &str) -> Result
     requires { ShapeFits B.Shape set.now }
 {
     let made = format!(in alloc; "{}", set.binary_text())?;
-    crate::checks::compare(rt, "the text of the set", made.as_str(), text);
+    crate::checks::end_unless_equal(rt, "the text of the set", made.as_str(), text);
     Ok(())
 }
 
@@ -106,11 +106,11 @@ fn is_cut_off<B: Bits>(rt: &impl Abort, set: &B, digits: u32)
 {
     for left in 0..digits {
         let mut short = Short { left };
-        same!(rt; (left, write!(short, "{}", set.binary_text()).is_err()), (left, true));
+        same!(*rt; (left, write!(short, "{}", set.binary_text()).is_err()), (left, true));
     }
     let mut whole = Short { left: digits };
-    holds!(rt; write!(whole, "{}", set.binary_text()).is_ok());
-    same!(rt; whole.left, 0);
+    holds!(*rt; write!(whole, "{}", set.binary_text()).is_ok());
+    same!(*rt; whole.left, 0);
 }
 
 #[test]

@@ -146,8 +146,8 @@ fn refuses_when_interrupted(rt: &impl Abort, input: &[u8], printed: &[u8]) {
             output.most = most;
             output.interruptions = interruptions;
             output.stutters = stutters;
-            same!(rt; status_into(input, &mut output), 2);
-            same!(rt; output.text(), printed);
+            same!(*rt; status_into(input, &mut output), 2);
+            same!(*rt; output.text(), printed);
         }
     }
 }
@@ -176,7 +176,7 @@ fn reads_length(rt: &impl Abort, len: usize) {
     let mut text = [b'\n'; 4096];
     text[..13].copy_from_slice(b"be u8\ntest 0\n");
     let (status, output) = ran(&text[..min(len, 4096)]);
-    same!(rt; (len, status, output.text()), (len, 0, b"false\n".as_slice()));
+    same!(*rt; (len, status, output.text()), (len, 0, b"false\n".as_slice()));
 }
 
 #[test]

@@ -46,7 +46,7 @@ fn fills(
     let mut printed = Vec::from_slice(alloc, counts)?;
     printed.extend_from_slice(members)?;
     let (status, output) = ran(script.as_slice());
-    same!(rt; (status, output.text()), (0, printed.as_slice()));
+    same!(*rt; (status, output.text()), (0, printed.as_slice()));
     Ok(())
 }
 

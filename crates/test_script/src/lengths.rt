@@ -62,7 +62,7 @@ fn read_lengths(rt: &impl Abort, first: usize, most: usize, interruptions: u32) 
             input.interruptions = interruptions;
             let mut output = Sink::new();
             let status = status_of(&mut input, &mut output);
-            same!(rt; (length, status, output.text()), (length, 0, b"0\n".as_slice()));
+            same!(*rt; (length, status, output.text()), (length, 0, b"0\n".as_slice()));
         }
     }
 }
@@ -103,8 +103,8 @@ fn reads_and_refuses(rt: &impl Abort, text: &[u8], length: usize, most: usize) {
     let mut input = Source::new(&text[..min(length, text.len())]);
     input.most = most;
     let mut output = Sink::new();
-    same!(rt; (length, most, status_of(&mut input, &mut output)), (length, most, 2));
-    same!(rt; output.text(), b"line 1: not understood\n".as_slice());
+    same!(*rt; (length, most, status_of(&mut input, &mut output)), (length, most, 2));
+    same!(*rt; output.text(), b"line 1: not understood\n".as_slice());
 }
 
 #[test]
@@ -192,7 +192,7 @@ fn print_lengths(rt: &impl Abort, first: usize, stutters: bool) {
             let status = run(&mut Source::new(script.text()), &mut output).code();
             let pieces = if length <= 4096 { 1 } else { 2 };
             let writes = if stutters { pieces * 2 } else { pieces };
-            same!(rt; (status, output.bytes, output.writes), (0, length, writes));
+            same!(*rt; (status, output.bytes, output.writes), (0, length, writes));
         }
     }
 }

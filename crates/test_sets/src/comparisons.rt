@@ -111,7 +111,7 @@ fn feeds<T: Hash>(rt: &impl Abort, value: &T, want: [u32; 4], count: usize) {
     };
     value.hash(&mut hasher);
     let Fed { numbers, len } = hasher;
-    same!(rt; (numbers, len), (want, count));
+    same!(*rt; (numbers, len), (want, count));
 }
 
 #[test]

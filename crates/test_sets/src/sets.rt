@@ -48,9 +48,9 @@ fn gains<B: BitsMut>(rt: &impl Abort, bits: &mut B, members: &[u32], index: u32)
     requires { IsTrue B.indexable }
 {
     for member in members {
-        same!(rt; (*member, bits.test_bit(*member)), (*member, true));
+        same!(*rt; (*member, bits.test_bit(*member)), (*member, true));
     }
-    same!(rt; (index, bits.test_bit(index)), (index, false));
+    same!(*rt; (index, bits.test_bit(index)), (index, false));
     bits.set_bit(index);
 }
 
@@ -237,7 +237,7 @@ fn steps<'a, W: Iterator<Item = &'a u8>>(rt: &impl Abort, mut walk: W, expected:
     requires { (w : W) → W.can_next w }
 {
     for item in expected {
-        same!(rt; next(&mut walk).copied(), *item);
+        same!(*rt; next(&mut walk).copied(), *item);
     }
 }
 

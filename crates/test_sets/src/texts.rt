@@ -15,7 +15,7 @@ fn reads<S: Debug>(
     value: &S,
     text: &str,
 ) -> Result<(), AllocError> {
-    same!(rt; format!(in alloc; "{value:?}")?.as_str(), text);
+    same!(*rt; format!(in alloc; "{value:?}")?.as_str(), text);
     Ok(())
 }
 
@@ -90,11 +90,11 @@ impl Write for Short {
 fn is_cut_off<S: Debug>(rt: &impl Abort, value: &S, pieces: u32) {
     for left in 0..pieces {
         let mut short = Short { left };
-        same!(rt; (left, write!(short, "{value:?}").is_err()), (left, true));
+        same!(*rt; (left, write!(short, "{value:?}").is_err()), (left, true));
     }
     let mut whole = Short { left: pieces };
-    holds!(rt; write!(whole, "{value:?}").is_ok());
-    same!(rt; whole.left, 0);
+    holds!(*rt; write!(whole, "{value:?}").is_ok());
+    same!(*rt; whole.left, 0);
 }
 
 #[test]

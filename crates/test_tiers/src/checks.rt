@@ -1,23 +1,20 @@
-//! The checks of the tests. If a check fails, the output names the test and shows the checked
-//! expression. For `same!` it also shows both values. In a function with several checks, each check
-//! is proved in a tenth of the time of an `assert_eq!`.
+//! Checks for tests. If a function has several checks, each is proved in a tenth of the time of an
+//! `assert_eq!`. If a check fails, the output names its test. After `same!`, it shows both values.
+//! After `holds!`, it shows the condition as the test writes it.
+//!
+//! `same!` has no text, because a check with a text takes three times as long to prove.
 
 use std::fmt::Debug;
 use std::process::Abort;
 
-/// Ends the test unless two values are equal.
+/// Checks that two values are equal. If they differ, the test ends.
 macro_rules! same {
     ($rt:expr; $left:expr, $right:expr) => {
-        $crate::checks::compare(
-            &$rt,
-            concat!(stringify!($left), " == ", stringify!($right)),
-            $left,
-            $right,
-        )
+        $crate::checks::compare(&$rt, $left, $right)
     };
 }
 
-/// Ends the test unless a condition holds.
+/// Checks that a condition holds. If it does not, the test ends.
 macro_rules! holds {
     ($rt:expr; $condition:expr) => {
         $crate::checks::ask(&$rt, stringify!($condition), $condition)
@@ -27,14 +24,14 @@ macro_rules! holds {
 pub(crate) use holds;
 pub(crate) use same;
 
-/// Ends the test if two values differ. The message is `text` and both values.
-pub(crate) fn compare<T: PartialEq + Debug + Drop>(rt: &impl Abort, text: &str, left: T, right: T) {
+/// Ends the test if two values differ, and shows both.
+pub(crate) fn compare<T: PartialEq + Debug + Drop>(rt: &impl Abort, left: T, right: T) {
     if left != right {
-        Err::<(), (T, T)>((left, right)).expect(rt, text)
+        Err::<(), (T, T)>((left, right)).expect(rt, "two values differ")
     }
 }
 
-/// Ends the test if a condition does not hold. The message is `text`.
+/// Ends the test if a condition does not hold.
 pub(crate) fn ask(rt: &impl Abort, text: &str, condition: bool) {
     if !condition {
         rt.panic(text)

@@ -55,9 +55,9 @@ fn answers_of_two_tiers<B: BitsOwned, S: BitsOwned, T: BitsOwned, K: Kind>(
 
 // Tests that the answers are those of an empty set of capacity `numbers`.
 fn ask_empty(rt: &impl Abort, answers: &Answers, numbers: u32) {
-    same!(rt; answers.bits, numbers);
-    same!(rt; answers.capacity, numbers);
-    same!(rt; answers.whole, (0, true, false));
+    same!(*rt; answers.bits, numbers);
+    same!(*rt; answers.capacity, numbers);
+    same!(*rt; answers.whole, (0, true, false));
 }
 
 #[test]

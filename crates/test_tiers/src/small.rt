@@ -33,7 +33,7 @@ fn ask_set<B: BitsOwned>(rt: &impl Abort, question: Question, set: B, other: B) 
     requires { IsTrue B.indexable }
 {
     match question {
-        Question::Ends => same!(rt; ends_of_ones(&set), [Some(8), Some(8)]),
+        Question::Ends => same!(*rt; ends_of_ones(&set), [Some(8), Some(8)]),
         Question::Equality => ask_equality(rt, set, other),
         Question::Copy => ask_copy::<B>(rt),
         Question::Ranges => return after_ranges(rt),
@@ -87,7 +87,7 @@ fn ask_equality<B: BitsOwned>(rt: &impl Abort, nine: B, full: B)
         without(set, &[9]) == even(false),
         even::<B>(true) == full,
     ];
-    same!(rt; answers, [true; 4]);
+    same!(*rt; answers, [true; 4]);
 }
 
 #[test]
@@ -104,8 +104,8 @@ fn ask_copy<B: BitsOwned>(rt: &impl Abort)
 {
     let set = even::<B>(true);
     let copy = without(set, &[23]);
-    same!(rt; ends_of_zeros(&copy), [Some(23), Some(23)]);
-    same!(rt; ends_of_zeros(&set), [None, None]);
+    same!(*rt; ends_of_zeros(&copy), [Some(23), Some(23)]);
+    same!(*rt; ends_of_zeros(&set), [None, None]);
 }
 
 #[test]
@@ -121,12 +121,12 @@ fn after_ranges<B: BitsOwned>(rt: &impl Abort) -> B
 {
     let first = with_range::<B, BigEndian>(even(false), 0, 6, 18);
     let found = searches::<B, BigEndian>(&first, 0, 24);
-    same!(rt; found, [Some(6), Some(17), Some(0), Some(23)]);
+    same!(*rt; found, [Some(6), Some(17), Some(0), Some(23)]);
     let second = with_range::<B, BigEndian>(first, 1, 6, 17);
-    same!(rt; ends_of_ones(&second), [Some(17), Some(17)]);
+    same!(*rt; ends_of_ones(&second), [Some(17), Some(17)]);
     // In the order `LittleEndian`, index 22 is bit 1 of the last byte, the only set bit.
     let third = with_range::<B, LittleEndian>(second, 2, 22, 23);
-    same!(rt; whole(&third), (0, true, false));
+    same!(*rt; whole(&third), (0, true, false));
     first
 }
 
@@ -141,19 +141,19 @@ fn a_range_across_words(rt: HostRuntime) {
 fn ask_for_runs_of_ones<B: Bits>(rt: &impl Abort, set: &B)
     requires { ShapeFits B.Shape set.now }
 {
-    same!(rt; first_runs(set, 1), [Some(7), Some(0)]);
-    same!(rt; first_runs(set, 2), [Some(16), Some(0)]);
-    same!(rt; first_runs(set, 3), [None, Some(0)]);
-    same!(rt; first_runs(set, 8), [None, Some(8)]);
+    same!(*rt; first_runs(set, 1), [Some(7), Some(0)]);
+    same!(*rt; first_runs(set, 2), [Some(16), Some(0)]);
+    same!(*rt; first_runs(set, 3), [None, Some(0)]);
+    same!(*rt; first_runs(set, 8), [None, Some(8)]);
 }
 
 // Tests where the first runs begin in the set of all numbers but 7, 16 and 17.
 fn ask_for_runs_of_zeros<B: Bits>(rt: &impl Abort, set: &B)
     requires { ShapeFits B.Shape set.now }
 {
-    same!(rt; first_runs(set, 2), [Some(0), Some(16)]);
-    same!(rt; first_runs(set, 3), [Some(0), None]);
-    same!(rt; first_runs(set, 8), [Some(8), None]);
+    same!(*rt; first_runs(set, 2), [Some(0), Some(16)]);
+    same!(*rt; first_runs(set, 3), [Some(0), None]);
+    same!(*rt; first_runs(set, 8), [Some(8), None]);
 }
 
 #[test]
@@ -167,10 +167,10 @@ fn runs_about_a_word_that_is_passed_over(rt: HostRuntime) {
 fn ask_operations<B: BitsOwned>(rt: &impl Abort, one: B, other: B)
     requires { IsTrue B.indexable }
 {
-    same!(rt; ends_of_ones(&one.union(other)), [Some(0), Some(23)]);
-    same!(rt; ends_of_ones(&one.conjunction(other)), [Some(0), Some(0)]);
-    same!(rt; ends_of_ones(&one.difference(other)), [None, None]);
-    same!(rt; ends_of_ones(&one.symmetric_difference(other)), [Some(23), Some(23)]);
+    same!(*rt; ends_of_ones(&one.union(other)), [Some(0), Some(23)]);
+    same!(*rt; ends_of_ones(&one.conjunction(other)), [Some(0), Some(0)]);
+    same!(*rt; ends_of_ones(&one.difference(other)), [None, None]);
+    same!(*rt; ends_of_ones(&one.symmetric_difference(other)), [Some(23), Some(23)]);
 }
 
 #[test]
@@ -184,8 +184,8 @@ fn ask_without_both<B: BitsOwned>(rt: &impl Abort, set: B)
     requires { IsTrue B.indexable }
 {
     let set = without(set, &[48 + 9, 8]);
-    same!(rt; whole(&set), (0, true, false));
-    same!(rt; ends_of_ones(&set), [None, None]);
+    same!(*rt; whole(&set), (0, true, false));
+    same!(*rt; ends_of_ones(&set), [None, None]);
 }
 
 // Sets bits 9 and 8 of an empty set, by indexes that wrap at the capacity of 24. Returns this set.
@@ -193,8 +193,8 @@ fn with_two_past<B: BitsOwned>(rt: &impl Abort) -> B
     requires { IsTrue B.indexable }
 {
     let set = with::<B, BigEndian>(even(false), &[24 + 9]);
-    same!(rt; has(&set, 9), true);
-    same!(rt; ends_of_ones(&set), [Some(9), Some(9)]);
+    same!(*rt; has(&set, 9), true);
+    same!(*rt; ends_of_ones(&set), [Some(9), Some(9)]);
     // 4,294,967,295 wraps to 15. In the order `LittleEndian` this is the bit that has index 8 in
     // the order `BigEndian`.
     let set = with::<B, LittleEndian>(set, &[u32::MAX]);
@@ -215,8 +215,8 @@ fn reads<S: Debug>(
     value: &S,
     text: &str,
 ) -> Result<(), AllocError> {
-    same!(rt; format!(in alloc; "{value:?}")?.as_str(), text);
-    same!(rt; format!(in alloc; "{value:#?}")?.as_str(), text);
+    same!(*rt; format!(in alloc; "{value:?}")?.as_str(), text);
+    same!(*rt; format!(in alloc; "{value:#?}")?.as_str(), text);
     Ok(())
 }
 

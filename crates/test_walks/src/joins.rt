@@ -51,7 +51,7 @@ fn steps<T: Copy + Debug + PartialEq, W: Iterator<Item = T>>(
     requires { (w : W) → W.can_next w }
 {
     for item in expected {
-        same!(rt; next(&mut walk), *item);
+        same!(*rt; next(&mut walk), *item);
     }
 }
 
@@ -64,7 +64,7 @@ fn steps_to<'a, T: Copy + Debug + PartialEq + 'a, W: Iterator<Item = &'a T>>(
     requires { (w : W) → W.can_next w }
 {
     for item in expected {
-        same!(rt; next(&mut walk).copied(), *item);
+        same!(*rt; next(&mut walk).copied(), *item);
     }
 }
 

@@ -234,8 +234,8 @@ fn take<W: DoubleEndedIterator<Item = u32>>(
     requires back { (w : W) → W.can_next_back w }
 {
     match end {
-        End::Front => same!(rt; walk.next(), item),
-        End::Back => same!(rt; walk.next_back(), item),
+        End::Front => same!(*rt; walk.next(), item),
+        End::Back => same!(*rt; walk.next_back(), item),
     }
 }
 

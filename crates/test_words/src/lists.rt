@@ -11,7 +11,7 @@ use std::process::Abort;
 // and the wanted word.
 fn each_is(rt: &impl Abort, lists: &[(&str, u8, u8)]) {
     for (list, word, want) in lists {
-        same!(rt; (*list, *word), (*list, *want));
+        same!(*rt; (*list, *word), (*list, *want));
     }
 }
 
@@ -122,7 +122,7 @@ fn listed_as_called<B: BitsOwned>(rt: &impl Abort) -> B
     requires { IsTrue B.indexable }
 {
     let listed: B = set![1, 12];
-    holds!(rt; listed == B::zeros().with_bit(1).with_bit(12));
+    holds!(*rt; listed == B::zeros().with_bit(1).with_bit(12));
     listed
 }
 

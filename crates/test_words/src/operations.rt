@@ -69,7 +69,7 @@ fn operations_of<B: BitsOwned + Debug>(rt: &impl Abort, one: B, other: B, expect
         other.difference(one),
         one.symmetric_difference(other),
     ];
-    same!(rt; made, expected);
+    same!(*rt; made, expected);
 }
 
 #[test]
@@ -125,7 +125,7 @@ fn words_with_and_without_an_index(rt: HostRuntime) {
 fn with_each_way<B: BitsOwned + Debug>(rt: &impl Abort, bits: B, big: u32, little: u32, want: B)
     requires { IsTrue B.indexable }
 {
-    same!(rt; bits.with_bit_be(big).with_bit_le(little), want);
+    same!(*rt; bits.with_bit_be(big).with_bit_le(little), want);
 }
 
 // Sets bit `index` of a set in the order of the type, and in a copy in little-endian order. Checks
@@ -133,8 +133,8 @@ fn with_each_way<B: BitsOwned + Debug>(rt: &impl Abort, bits: B, big: u32, littl
 fn with_one<B: BitsOwned + Debug>(rt: &impl Abort, bits: B, index: u32, want: B, little: B)
     requires { IsTrue B.indexable }
 {
-    same!(rt; bits.with_bit(index), want);
-    same!(rt; bits.with_bit_le(index), little);
+    same!(*rt; bits.with_bit(index), want);
+    same!(*rt; bits.with_bit_le(index), little);
 }
 
 // Returns whether a set is empty after one bit is set and another is cleared.

@@ -142,7 +142,7 @@ fn in_nested_rows<B: BitsOwned + Debug>(rt: &impl Abort, expected: [B; 5])
         set![16..32],
         set![9..11],
     ];
-    same!(rt; ranges, expected);
+    same!(*rt; ranges, expected);
 }
 
 #[test]
@@ -181,7 +181,7 @@ fn without_capacity<B: BitsOwned + Debug>(rt: &impl Abort, expected: [B; 3])
         set_le![7..8],
         set![5..70],
     ];
-    same!(rt; ranges, expected);
+    same!(*rt; ranges, expected);
 }
 
 #[test]
@@ -219,7 +219,7 @@ fn changes<B: BitsOwned + Debug, E: Endian>(
     set.set_range_in::<E>(from, to);
     cleared.clear_range_in::<E>(from, to);
     flipped.toggle_range_in::<E>(from, to);
-    same!(rt; [set, cleared, flipped], want);
+    same!(*rt; [set, cleared, flipped], want);
 }
 
 #[test]

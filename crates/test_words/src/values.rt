@@ -34,8 +34,8 @@ fn counts(rt: &impl Abort, byte: u8, signed: i8) {
     let low = ONES_OF_HALF[(byte % 16) as usize];
     let ones = u32::from(high) + u32::from(low);
     let expected = (ones, 8u32.wrapping_sub(ones), byte == 0, byte == 255);
-    same!(rt; counts_of(&byte), expected);
-    same!(rt; counts_of(&signed), expected);
+    same!(*rt; counts_of(&byte), expected);
+    same!(*rt; counts_of(&signed), expected);
 }
 
 // Returns how many bits are set, how many are unset, whether all are unset, whether all are set.
@@ -84,12 +84,12 @@ fn at_index<T: BitsOwned, E: Endian>(
     requires indexable { IsTrue T.indexable }
     requires within { index < 8 }
 {
-    same!(rt; [word.test_bit_in::<E>(index), word.test_bit_in::<E>(index + 8)], [digit; 2]);
+    same!(*rt; [word.test_bit_in::<E>(index), word.test_bit_in::<E>(index + 8)], [digit; 2]);
     let mut with = word;
     with.set_bit_in::<E>(index);
     let mut without = word;
     without.clear_bit_in::<E>(index + 16);
-    same!(rt; [with == changed.0, without == changed.1], [true; 2]);
+    same!(*rt; [with == changed.0, without == changed.1], [true; 2]);
 }
 
 // Checks the searches and the iterators of a word. In the order `E`, the word has the same indexes
@@ -103,8 +103,8 @@ fn walks<T: Word, E: Endian>(rt: &impl Abort, word: T, members: u8) {
 }
 
 fn searches<T: Word, E: Endian>(rt: &impl Abort, word: T, members: u8) {
-    same!(rt; searches_of_zeros::<T, E>(word), zeros_at_the_ends(members));
-    same!(rt; searches_of_ones::<T, E>(word), ones_at_the_ends(members));
+    same!(*rt; searches_of_zeros::<T, E>(word), zeros_at_the_ends(members));
+    same!(*rt; searches_of_ones::<T, E>(word), ones_at_the_ends(members));
 }
 
 fn searches_of_zeros<T: Word, E: Endian>(word: T) -> (u32, u32) {
@@ -146,10 +146,10 @@ fn walks_from_the_front<W: Iterator<Item = u32>>(rt: &impl Abort, mut walk: W, m
 {
     for index in 0..8 {
         if (members >> index) % 2 == 1 {
-            same!(rt; front(&mut walk), Some(index));
+            same!(*rt; front(&mut walk), Some(index));
         }
     }
-    same!(rt; front(&mut walk), None);
+    same!(*rt; front(&mut walk), None);
 }
 
 // Checks that the steps from the back of an iterator yield the indexes of a byte's set bits in
@@ -163,8 +163,8 @@ fn walks_from_the_back<W: DoubleEndedIterator<Item = u32>>(
 {
     for index in (0..8).rev() {
         if (members >> index) % 2 == 1 {
-            same!(rt; back(&mut walk), Some(index));
+            same!(*rt; back(&mut walk), Some(index));
         }
     }
-    same!(rt; back(&mut walk), None);
+    same!(*rt; back(&mut walk), None);
 }

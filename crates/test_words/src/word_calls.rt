@@ -152,8 +152,8 @@ fn counts<T: Bits>(rt: &impl Abort, width: u32, none: T, all: T)
     requires none_fits { ShapeFits T.Shape none }
     requires all_fits { ShapeFits T.Shape all }
 {
-    holds!(rt; Bits::count_ones(&none) == 0 && Bits::count_ones(&all) == width);
-    holds!(rt; none.all_zeros() && !none.all_ones() && all.all_ones() && !all.all_zeros());
+    holds!(*rt; Bits::count_ones(&none) == 0 && Bits::count_ones(&all) == width);
+    holds!(*rt; none.all_zeros() && !none.all_ones() && all.all_ones() && !all.all_zeros());
 }
 
 // Checks that the set bits of a word are `from..to`. An iterator over set bits yields them from the
@@ -166,15 +166,15 @@ fn walks_alone<T: Word, E: Endian>(rt: &impl Abort, word: T, from: u32, to: u32)
 fn ones_alone<T: Word, E: Endian>(rt: &impl Abort, word: T, from: u32, to: u32) {
     let mut ones = IterOnes::<T, E>::new(word);
     for index in from..to {
-        same!(rt; ones.next(), Some(index));
+        same!(*rt; ones.next(), Some(index));
     }
-    same!(rt; ones.next(), None);
+    same!(*rt; ones.next(), None);
 }
 
 fn zeros_alone<T: Word, E: Endian>(rt: &impl Abort, word: T, from: u32, to: u32) {
     let mut zeros = IterZeros::<T, E>::new(word);
     for index in (from..to).rev() {
-        same!(rt; zeros.next_back(), Some(index));
+        same!(*rt; zeros.next_back(), Some(index));
     }
-    same!(rt; zeros.next_back(), None);
+    same!(*rt; zeros.next_back(), None);
 }
