@@ -10,7 +10,9 @@ use bittle_bits::bits::Bits;
 use bittle_bits::bits_mut::BitsMut;
 use bittle_bits::bits_owned::BitsOwned;
 use bittle_bits::endian::{Endian, LittleEndian};
-use bittle_bits::extension::{End, Kind, Operation, RangeOperation, ReadWords, Sealed};
+use bittle_bits::extension::{
+    End, FixedCapacity, Kind, Operation, RangeOperation, ReadWords, Sealed,
+};
 use bittle_bits::shape::Shape;
 use std::alloc::AllocError;
 use std::marker::PhantomData;
@@ -359,22 +361,24 @@ impl<T: BitsMut, U: Endian> BitsMut for Set<T, U> {
     }
 }
 
-impl<T: BitsOwned, U: Endian> BitsOwned for Set<T, U> {
+impl<T: FixedCapacity, U: Endian> FixedCapacity for Set<T, U> {
     ghost one_capacity = { λ s. T.one_capacity s.bits };
 
     ghost type_whole_words = { T.type_whole_words };
 
     ghost type_fits = { T.type_fits };
 
+    #[inline]
+    fn fixed_capacity() -> u32 {
+        T::fixed_capacity()
+    }
+}
+
+impl<T: BitsOwned, U: Endian> BitsOwned for Set<T, U> {
     ghost eq_is_same = { λ s t.
         equal_sets U.mirrored T.width T.type_capacity T.width_positive T.type_whole_words
         (T.big s.bits) (T.big t.bits) (T.one_capacity s.bits) (T.one_capacity t.bits)
         (T.none_past s.bits) (T.none_past t.bits) };
-
-    #[inline]
-    fn bits() -> u32 {
-        T::bits()
-    }
 
     #[inline]
     fn zeros() -> Set<T, U> {

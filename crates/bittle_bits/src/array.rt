@@ -11,6 +11,7 @@ use crate::bits_mut::BitsMut;
 use crate::bits_owned::BitsOwned;
 use crate::end::End;
 use crate::endian::{DefaultEndian, Endian};
+use crate::fixed_capacity::FixedCapacity;
 use crate::internal::row;
 use crate::internal::sealed::Sealed;
 use crate::kind::{Kind, Ones, Zeros};
@@ -36,7 +37,10 @@ impl<T: Shape, const N: usize> Shape for [T; N] {
 // `others` has at most 128 bytes, it is copied first. The copy cannot overlap `elements`, so the
 // compiled code can process several words at once.
 #[inline]
-fn combine<T: BitsOwned, O: Operation, const N: usize>(elements: &mut [T; N], others: &[T; N])
+fn combine<T: BitsMut + FixedCapacity + Copy, O: Operation, const N: usize>(
+    elements: &mut [T; N],
+    others: &[T; N],
+)
     ensures { (mirrored : Bool)
         → read_in mirrored T.width (row_set N T.type_capacity T.big elements.new)
         ≡ combination_of O.decide
@@ -51,7 +55,20 @@ fn combine<T: BitsOwned, O: Operation, const N: usize>(elements: &mut [T; N], ot
     }
 }
 
-impl<T: BitsOwned, const N: usize> ReadWords for [T; N] {
+impl<T: FixedCapacity, const N: usize> FixedCapacity for [T; N] {
+    ghost one_capacity = { λ _. refl };
+
+    ghost type_whole_words = { words_of N _ _ T.type_whole_words };
+
+    ghost type_fits = { λ h. second_is_below T.indexable (N * T.type_capacity) 4294967295 h };
+
+    #[inline]
+    fn fixed_capacity() -> u32 {
+        row::bits_capacity::<T>(N)
+    }
+}
+
+impl<T: ReadWords + FixedCapacity, const N: usize> ReadWords for [T; N] {
     ghost leaf_width = { T.leaf_width };
 
     ghost width_positive = { T.width_positive };
@@ -91,7 +108,7 @@ impl<T: BitsOwned, const N: usize> ReadWords for [T; N] {
     }
 }
 
-impl<T: BitsOwned, const N: usize> Bits for [T; N] {
+impl<T: Bits + FixedCapacity, const N: usize> Bits for [T; N] {
     type Order = DefaultEndian;
 
     #[inline]
@@ -115,7 +132,7 @@ impl<T: BitsOwned, const N: usize> Bits for [T; N] {
     }
 }
 
-impl<T: BitsOwned, const N: usize> BitsMut for [T; N] {
+impl<T: BitsMut + FixedCapacity + Copy, const N: usize> BitsMut for [T; N] {
     #[inline]
     fn set_bit_in<E: Endian>(&mut self, index: u32) {
         row::put_bit::<T, E, Ones>(self, index, true);
@@ -148,18 +165,7 @@ impl<T: BitsOwned, const N: usize> BitsMut for [T; N] {
 }
 
 impl<T: BitsOwned, const N: usize> BitsOwned for [T; N] {
-    ghost one_capacity = { λ _. refl };
-
-    ghost type_whole_words = { words_of N _ _ T.type_whole_words };
-
-    ghost type_fits = { λ h. second_is_below T.indexable (N * T.type_capacity) 4294967295 h };
-
     ghost eq_is_same = { equal_rows N T.type_capacity T.big T.eq_is_same };
-
-    #[inline]
-    fn bits() -> u32 {
-        row::bits_capacity::<T>(N)
-    }
 
     #[inline]
     fn zeros() -> [T; N] {

@@ -9,12 +9,13 @@ ghost use Rattle.bittle_bits.specs.Walk.{AreBelow, IsFresh};
 
 use crate::bits_mut::BitsMut;
 use crate::endian::{BigEndian, Endian, LittleEndian};
+use crate::fixed_capacity::FixedCapacity;
 use crate::internal::source::OwnedSource;
 use crate::walk::{IntoIter, IntoIterOnes, IntoIterZeros};
 
 /// A set that owns its bits: copying the value copies the set. All values of the type have the same
 /// capacity.
-pub trait BitsOwned: Copy + Eq + BitsMut {
+pub trait BitsOwned: Copy + Eq + BitsMut + FixedCapacity {
     /// Returns how many bits a set of the type has, or `u32::MAX` if the type does not fit.
     ///
     /// Always callable. It costs O(1).
@@ -22,9 +23,13 @@ pub trait BitsOwned: Copy + Eq + BitsMut {
     /// ```
     /// <[u32; 4]>::bits();                                 // 128
     /// ```
-    fn bits() -> u32
+    #[inline]
+    final fn bits() -> u32
         ensures value { Fits Self.indexable Self.type_capacity → result ≡ Self.type_capacity }
-        ensures fits { result < 4294967295 → Fits Self.indexable Self.type_capacity };
+        ensures fits { result < 4294967295 → Fits Self.indexable Self.type_capacity }
+    {
+        Self::fixed_capacity()
+    }
 
     /// Returns the set in which no bit is set. It is the same value in both orders.
     ///
@@ -414,13 +419,6 @@ pub trait BitsOwned: Copy + Eq + BitsMut {
     {
         self.into_iter_zeros_in::<BigEndian>()
     }
-
-    ghost one_capacity: { (v : Self) → (Self.big v).capacity ≡ Self.type_capacity };
-
-    ghost type_whole_words: { (words : ℕ) × (Self.type_capacity ≡ words * Self.width) };
-
-    // If the type may be indexed, its capacity is below `u32::MAX`.
-    ghost type_fits: { IsTrue Self.indexable → Self.type_capacity < 4294967295 };
 
     // Values that are equal by `==` stand for the same set.
     ghost eq_is_same: { (u v : Self) → IsTrue (Self.eq u v) → Self.big u ≡ Self.big v };

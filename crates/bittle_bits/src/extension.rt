@@ -3,6 +3,7 @@
 //! tests that count how many words a call reads.
 
 pub use crate::end::{Back, End, Front};
+pub use crate::fixed_capacity::FixedCapacity;
 pub use crate::integer::Integer;
 pub use crate::internal::buffer::Count;
 pub use crate::internal::by_fours::first_in_words;

@@ -1,5 +1,4 @@
-//! Words as sets: the impls of `ReadWords`, `Bits`, `BitsMut` and `BitsOwned`, written once for all
-//! widths.
+//! Words as sets: the impls of the traits of sets, written once for all widths.
 
 ghost use Rattle.std.specs.Prelude.{refl};
 ghost use Rattle.std.proofs.Common.{sym};
@@ -9,6 +8,7 @@ use crate::bits::Bits;
 use crate::bits_mut::BitsMut;
 use crate::bits_owned::BitsOwned;
 use crate::endian::{DefaultEndian, Endian};
+use crate::fixed_capacity::FixedCapacity;
 use crate::one_word::{
     all_ones, all_zeros, assign_range, clear_bit, clear_bits, combine, count_ones, leaf_word, ones,
     set_bit, set_leaf_word, test_bit, zeros,
@@ -107,19 +107,21 @@ impl<W: Integer> BitsMut for W {
     }
 }
 
-impl<W: Integer> BitsOwned for W {
+impl<W: Integer> FixedCapacity for W {
     ghost one_capacity = { λ v. word_capacity _ _ _ _ (W.is_word.big_is_pattern v) W.is_word.same_capacity };
 
     ghost type_whole_words = { one_word_whole _ _ _ W.is_word.same_width W.is_word.same_capacity };
 
     ghost type_fits = { λ _. W.is_word.fits.1 };
 
-    ghost eq_is_same = { W.is_word.same_pattern };
-
     #[inline]
-    fn bits() -> u32 {
+    fn fixed_capacity() -> u32 {
         W::width()
     }
+}
+
+impl<W: Integer> BitsOwned for W {
+    ghost eq_is_same = { W.is_word.same_pattern };
 
     #[inline]
     fn zeros() -> W {

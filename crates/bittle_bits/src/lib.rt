@@ -15,6 +15,8 @@ pub mod endian;
 #[doc(hidden)]
 pub mod extension;
 #[doc(hidden)]
+pub mod fixed_capacity;
+#[doc(hidden)]
 pub mod integer;
 mod integers;
 mod internal;

@@ -6,9 +6,9 @@ ghost use Rattle.bittle_bits.specs.Rows.{row_set};
 
 use crate::bits::Bits;
 use crate::bits_mut::BitsMut;
-use crate::bits_owned::BitsOwned;
 use crate::end::End;
 use crate::endian::{DefaultEndian, Endian};
+use crate::fixed_capacity::FixedCapacity;
 use crate::internal::row;
 use crate::internal::sealed::Sealed;
 use crate::kind::{Kind, Ones, Zeros};
@@ -28,7 +28,7 @@ impl<'a, T: Shape> Shape for &'a [T] {
     fn seal(_: Sealed) {}
 }
 
-impl<'a, T: BitsOwned> ReadWords for &'a [T] {
+impl<'a, T: ReadWords + FixedCapacity> ReadWords for &'a [T] {
     ghost leaf_width = { T.leaf_width };
 
     ghost width_positive = { T.width_positive };
@@ -59,7 +59,7 @@ impl<'a, T: BitsOwned> ReadWords for &'a [T] {
     }
 }
 
-impl<'a, T: BitsOwned> Bits for &'a [T] {
+impl<'a, T: Bits + FixedCapacity> Bits for &'a [T] {
     type Order = DefaultEndian;
 
     #[inline]
@@ -97,7 +97,7 @@ impl<'a, T: Shape> Shape for &'a mut [T] {
     fn seal(_: Sealed) {}
 }
 
-impl<'a, T: BitsOwned> ReadWords for &'a mut [T] {
+impl<'a, T: ReadWords + FixedCapacity> ReadWords for &'a mut [T] {
     ghost leaf_width = { T.leaf_width };
 
     ghost width_positive = { T.width_positive };
@@ -128,7 +128,7 @@ impl<'a, T: BitsOwned> ReadWords for &'a mut [T] {
     }
 }
 
-impl<'a, T: BitsOwned> Bits for &'a mut [T] {
+impl<'a, T: Bits + FixedCapacity> Bits for &'a mut [T] {
     type Order = DefaultEndian;
 
     #[inline]
@@ -152,7 +152,7 @@ impl<'a, T: BitsOwned> Bits for &'a mut [T] {
     }
 }
 
-impl<'a, T: BitsOwned> BitsMut for &'a mut [T] {
+impl<'a, T: BitsMut + FixedCapacity + Copy> BitsMut for &'a mut [T] {
     #[inline]
     fn set_bit_in<E: Endian>(&mut self, index: u32) {
         row::put_bit::<T, E, Ones>(self, index, false);

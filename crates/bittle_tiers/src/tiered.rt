@@ -16,7 +16,7 @@ use bittle_bits::bits_mut::BitsMut;
 use bittle_bits::bits_owned::BitsOwned;
 use bittle_bits::endian::Endian;
 use bittle_bits::extension::{
-    End, Kind, Ones, Operation, RangeOperation, ReadWords, Sealed, Zeros, word_width,
+    End, FixedCapacity, Kind, Ones, Operation, RangeOperation, ReadWords, Sealed, Zeros, word_width,
 };
 use bittle_bits::shape::Shape;
 use std::alloc::AllocError;
@@ -154,7 +154,8 @@ impl<B: Shape + Eq, S: Shape, K: Kind> Eq for Tiered<B, S, K> {
 
 /// Prints the indexes of the set bits in increasing order between braces, as a `Set` of the map
 /// does. Format flags have no effect.
-impl<B: BitsOwned, S: BitsOwned, K: Kind> fmt::Debug for Tiered<B, S, K> {
+impl<B: Bits + FixedCapacity, S: ReadWords + FixedCapacity, K: Kind> fmt::Debug
+    for Tiered<B, S, K> {
     ghost debug_output = { λ t. Some (set_text (set_in B.Shape B.Order.Endian t.map)) };
 
     fn fmt<W: fmt::Write>(&self, f: &mut fmt::Formatter<W>) -> fmt::Result {
@@ -162,7 +163,29 @@ impl<B: BitsOwned, S: BitsOwned, K: Kind> fmt::Debug for Tiered<B, S, K> {
     }
 }
 
-impl<B: BitsOwned, S: BitsOwned, K: Kind> ReadWords for Tiered<B, S, K> {
+impl<B: ReadWords + FixedCapacity, S: FixedCapacity, K: Kind> FixedCapacity for Tiered<B, S, K> {
+    ghost one_capacity = { λ t. B.one_capacity t.map };
+
+    ghost type_whole_words = { B.type_whole_words };
+
+    ghost type_fits = { λ h. B.type_fits (map_indexable B.indexable S.indexable B.type_capacity
+        S.type_capacity B.width h) };
+
+    fn fixed_capacity() -> u32 {
+        let bits = B::fixed_capacity();
+        let summary = S::fixed_capacity();
+        if bits == u32::MAX || summary == u32::MAX {
+            return u32::MAX;
+        }
+        if summary < bits / word_width::<B>() {
+            return u32::MAX;
+        }
+        bits
+    }
+}
+
+impl<B: ReadWords + FixedCapacity, S: ReadWords + FixedCapacity, K: Kind> ReadWords
+    for Tiered<B, S, K> {
     ghost leaf_width = { B.leaf_width };
 
     ghost width_positive = { B.width_positive };
@@ -214,7 +237,7 @@ impl<B: BitsOwned, S: BitsOwned, K: Kind> ReadWords for Tiered<B, S, K> {
     }
 }
 
-impl<B: BitsOwned, S: BitsOwned, K: Kind> Bits for Tiered<B, S, K> {
+impl<B: Bits + FixedCapacity, S: ReadWords + FixedCapacity, K: Kind> Bits for Tiered<B, S, K> {
     type Order = B::Order;
 
     #[inline]
@@ -249,7 +272,7 @@ impl<B: BitsOwned, S: BitsOwned, K: Kind> Bits for Tiered<B, S, K> {
 // Sets the bit at `index` if `V` is `Ones`, and else clears it. An index past the capacity wraps.
 // Then updates the summary for the word of that bit.
 #[inline]
-fn put_bit<B: BitsOwned, S: BitsOwned, K: Kind, E: Endian, V: Kind>(
+fn put_bit<B: BitsMut + FixedCapacity, S: BitsOwned, K: Kind, E: Endian, V: Kind>(
     tiered: &mut Tiered<B, S, K>,
     index: u32,
 )
@@ -257,7 +280,7 @@ fn put_bit<B: BitsOwned, S: BitsOwned, K: Kind, E: Endian, V: Kind>(
         ≡ with_bit V.ONES (set_in B.Shape E.Endian tiered.old.map) index }
 {
     upkeep::put_bit::<B, E, V>(&mut tiered.map, index);
-    let bits = B::bits();
+    let bits = B::fixed_capacity();
     if bits != 0 {
         let at = index % bits;
         let k = (at / word_width::<B>()) as usize;
@@ -265,7 +288,7 @@ fn put_bit<B: BitsOwned, S: BitsOwned, K: Kind, E: Endian, V: Kind>(
     }
 }
 
-impl<B: BitsOwned, S: BitsOwned, K: Kind> BitsMut for Tiered<B, S, K> {
+impl<B: BitsMut + FixedCapacity, S: BitsOwned, K: Kind> BitsMut for Tiered<B, S, K> {
     #[inline]
     fn set_bit_in<E: Endian>(&mut self, index: u32) {
         put_bit::<B, S, K, E, Ones>(self, index);
@@ -308,26 +331,7 @@ impl<B: BitsOwned, S: BitsOwned, K: Kind> BitsMut for Tiered<B, S, K> {
 }
 
 impl<B: BitsOwned, S: BitsOwned, K: Kind> BitsOwned for Tiered<B, S, K> {
-    ghost one_capacity = { λ t. B.one_capacity t.map };
-
-    ghost type_whole_words = { B.type_whole_words };
-
-    ghost type_fits = { λ h. B.type_fits (map_indexable B.indexable S.indexable B.type_capacity
-        S.type_capacity B.width h) };
-
     ghost eq_is_same = { λ s t. B.eq_is_same s.map t.map };
-
-    fn bits() -> u32 {
-        let bits = B::bits();
-        let summary = S::bits();
-        if bits == u32::MAX || summary == u32::MAX {
-            return u32::MAX;
-        }
-        if summary < bits / word_width::<B>() {
-            return u32::MAX;
-        }
-        bits
-    }
 
     fn zeros() -> Tiered<B, S, K> {
         Tiered {

@@ -16,7 +16,8 @@ use bittle_bits::bits_mut::BitsMut;
 use bittle_bits::bits_owned::BitsOwned;
 use bittle_bits::endian::{BigEndian, Endian};
 use bittle_bits::extension::{
-    End, Front, Kind, Ones, ReadWords, Word, end_in, is_without_bits, word_of_kind, word_width,
+    End, FixedCapacity, Front, Kind, Ones, ReadWords, Word, end_in, is_without_bits, word_of_kind,
+    word_width,
 };
 
 // Returns whether word `k` of `map` has a bit of kind `K`: a set bit if `K` is `Ones`, else an
@@ -89,13 +90,16 @@ pub(crate) fn even<S: BitsOwned>(all: bool) -> S
 }
 
 /// Updates a summary for each word of the map.
-pub(crate) fn rebuild<B: BitsOwned, S: BitsOwned, K: Kind>(map: &B, summary: &mut S)
+pub(crate) fn rebuild<B: ReadWords + FixedCapacity, S: BitsMut + FixedCapacity, K: Kind>(
+    map: &B,
+    summary: &mut S,
+)
     requires map_fits { IsTrue B.indexable }
     requires fits { IsTrue S.indexable }
     requires reaches { B.type_capacity ≤ S.type_capacity * B.width }
     ensures { Summarizes K.ONES B.width (B.big map.now) (S.big summary.new) }
 {
-    let words = (B::bits() / word_width::<B>()) as usize;
+    let words = (B::fixed_capacity() / word_width::<B>()) as usize;
     for k in 0..words {
         refresh::<B, S, K>(map, summary, k, false);
     }
@@ -103,14 +107,17 @@ pub(crate) fn rebuild<B: BitsOwned, S: BitsOwned, K: Kind>(map: &B, summary: &mu
 
 /// Returns whether no word of `map` has a bit of kind `K`. It reads only the summary.
 #[inline]
-pub(crate) fn has_none<B: BitsOwned, S: BitsOwned, K: Kind>(map: &B, summary: &S) -> bool
+pub(crate) fn has_none<B: ReadWords + FixedCapacity, S: ReadWords + FixedCapacity, K: Kind>(
+    map: &B,
+    summary: &S,
+) -> bool
     requires map_fits { IsTrue B.indexable }
     requires fits { IsTrue S.indexable }
     requires reaches { B.type_capacity ≤ S.type_capacity * B.width }
     requires tells { Summarizes K.ONES B.width (B.big map.now) (S.big summary.now) }
     ensures { result ≡ (size (ones_or_zeros K.ONES (B.big map.now)) == 0) }
 {
-    let words = B::bits() / word_width::<B>();
+    let words = B::fixed_capacity() / word_width::<B>();
     match end_in::<S, BigEndian, Ones, Front>(summary, 0, words) {
         Some(_) => false,
         None => true,
@@ -120,7 +127,7 @@ pub(crate) fn has_none<B: BitsOwned, S: BitsOwned, K: Kind>(map: &B, summary: &S
 /// Updates `summary` for the words `first..=last` of `map`. For all other words, the summary has to
 /// be right already.
 #[inline]
-pub(crate) fn refresh_range<B: BitsOwned, S: BitsOwned, K: Kind>(
+pub(crate) fn refresh_range<B: ReadWords + FixedCapacity, S: BitsMut + FixedCapacity, K: Kind>(
     map: &B,
     summary: &mut S,
     first: usize,
@@ -143,12 +150,12 @@ pub(crate) fn refresh_range<B: BitsOwned, S: BitsOwned, K: Kind>(
 /// Moves one end of the range of words `low..high` past all words at that end that have no bit of
 /// kind `K`, and returns the moved end. `N` names the end: the front or the back.
 #[inline]
-pub(crate) fn pass_over<B: BitsOwned, S: BitsOwned, K: Kind, N: End>(
-    map: &B,
-    summary: &S,
-    low: usize,
-    high: usize,
-) -> usize
+pub(crate) fn pass_over<
+    B: ReadWords + FixedCapacity,
+    S: ReadWords + FixedCapacity,
+    K: Kind,
+    N: End,
+>(map: &B, summary: &S, low: usize, high: usize) -> usize
     requires fits { IsTrue S.indexable }
     requires reaches { B.type_capacity ≤ S.type_capacity * B.width }
     requires tells { Summarizes K.ONES B.width (B.big map.now) (S.big summary.now) }
@@ -170,7 +177,7 @@ pub(crate) fn pass_over<B: BitsOwned, S: BitsOwned, K: Kind, N: End>(
 /// returns for groups of its own words. If the words of the summary do not have 64 bits, every bit
 /// of the result is set.
 #[inline(always)]
-pub(crate) fn groups_told<B: BitsOwned, S: BitsOwned, K: Kind>(
+pub(crate) fn groups_told<B: ReadWords + FixedCapacity, S: ReadWords + FixedCapacity, K: Kind>(
     map: &B,
     summary: &S,
     n: usize,
@@ -187,7 +194,7 @@ pub(crate) fn groups_told<B: BitsOwned, S: BitsOwned, K: Kind>(
     if level != 0 {
         return summary.groups_told::<Ones>(n, level - 1);
     }
-    if (S::bits() / 64) as usize <= n {
+    if (S::fixed_capacity() / 64) as usize <= n {
         return 0;
     }
     summary.nth_leaf_word(n).to_bits() as u64

@@ -10,7 +10,7 @@ ghost use Rattle.bittle.specs.Shapes.{Fits};
 
 use crate::asked::Asked;
 use bittle::{Bits, BitsMut, BitsOwned, DefaultEndian, Endian};
-use bittle_bits::extension::{Operation, RangeOperation, ReadWords, Sealed};
+use bittle_bits::extension::{FixedCapacity, Operation, RangeOperation, ReadWords, Sealed};
 use bittle_bits::shape::Shape;
 
 /// The bytes of a set with the members 0 and 31 (7 and 24 in the order `LittleEndian`).
@@ -143,21 +143,23 @@ impl<'a> BitsMut for Probe<'a> {
     }
 }
 
-impl<'a> BitsOwned for Probe<'a> {
+impl<'a> FixedCapacity for Probe<'a> {
     ghost one_capacity = { λ _. refl };
 
     ghost type_whole_words = { words_of 4 8 8 (one_word 8) };
 
     ghost type_fits = { λ _. lit< tt };
 
-    ghost eq_is_same = { λ u v. equal_rows 4 8 (bit_set 8) (equal_words 8) u.bytes v.bytes };
-
-    fn bits() -> u32
+    fn fixed_capacity() -> u32
         ensures value { Fits true (4 * 8) → result ≡ 4 * 8 }
         ensures fits { result < 4294967295 → Fits true (4 * 8) }
     {
         <[u8; 4]>::bits()
     }
+}
+
+impl<'a> BitsOwned for Probe<'a> {
+    ghost eq_is_same = { λ u v. equal_rows 4 8 (bit_set 8) (equal_words 8) u.bytes v.bytes };
 
     fn zeros() -> Probe<'a> {
         Probe {

@@ -7,7 +7,7 @@ ghost use Rattle.bittle.specs.Shapes.{Fits};
 
 use crate::asked::Asked;
 use bittle::{Bits, BitsMut, BitsOwned, DefaultEndian, Endian};
-use bittle_bits::extension::{Operation, RangeOperation, ReadWords, Sealed};
+use bittle_bits::extension::{FixedCapacity, Operation, RangeOperation, ReadWords, Sealed};
 use bittle_bits::shape::Shape;
 
 /// A set of one word. It counts the calls made to it, unless `asked` is `None`.
@@ -134,21 +134,23 @@ impl<'a> BitsMut for WordProbe<'a> {
     }
 }
 
-impl<'a> BitsOwned for WordProbe<'a> {
+impl<'a> FixedCapacity for WordProbe<'a> {
     ghost one_capacity = { λ _. refl };
 
     ghost type_whole_words = { one_word 64 };
 
     ghost type_fits = { λ _. lit< tt };
 
-    ghost eq_is_same = { λ u v. equal_words 64 u.word v.word };
-
-    fn bits() -> u32
+    fn fixed_capacity() -> u32
         ensures value { Fits true 64 → result ≡ 64 }
         ensures fits { result < 4294967295 → Fits true 64 }
     {
         u64::bits()
     }
+}
+
+impl<'a> BitsOwned for WordProbe<'a> {
+    ghost eq_is_same = { λ u v. equal_words 64 u.word v.word };
 
     fn zeros() -> WordProbe<'a> {
         WordProbe {

@@ -14,22 +14,24 @@ ghost use Rattle.bittle_bits.specs.Words.{ReplacesWord, word_of};
 ghost use Rattle.bittle_bits.specs.Values.{row_of, row_mirrored, row_in};
 ghost use Rattle.bittle_bits.specs.Walk.{ones_or_zeros};
 
-use crate::bits_owned::BitsOwned;
+use crate::bits::Bits;
+use crate::bits_mut::BitsMut;
 use crate::end::End;
 use crate::endian::Endian;
+use crate::fixed_capacity::FixedCapacity;
 use crate::internal::ends::ends;
 use crate::kind::{Kind, Ones, Zeros};
 use crate::operation::{Operation, RangeOperation};
-use crate::read_words::word_width;
+use crate::read_words::{ReadWords, word_width};
 
 /// Returns the capacity of a row of `len` elements, or `u32::MAX` if the row does not fit. The
 /// comment on `Bits` says when it fits.
 #[inline]
-pub fn bits_capacity<T: BitsOwned>(len: usize) -> u32
+pub fn bits_capacity<T: FixedCapacity>(len: usize) -> u32
     ensures value { Fits T.indexable (len * T.type_capacity) → result ≡ len * T.type_capacity }
     ensures fits { result < 4294967295 → Fits T.indexable (len * T.type_capacity) }
 {
-    let each = T::bits();
+    let each = T::fixed_capacity();
     if each == u32::MAX {
         return u32::MAX;
     }
@@ -45,7 +47,7 @@ pub fn bits_capacity<T: BitsOwned>(len: usize) -> u32
 /// Returns whether an array of `len` elements is short, which means that it has at most 128 bytes.
 /// The result affects speed only, so this function has no contract.
 #[inline]
-pub fn is_short<T: BitsOwned>(len: usize) -> bool {
+pub fn is_short<T: FixedCapacity>(len: usize) -> bool {
     bits_capacity::<T>(len) <= 1024
 }
 
@@ -69,12 +71,16 @@ fn wrapped(index: u32, capacity: u32) -> u32
 // the length is a constant, a division by the length costs less than a test whether the index is
 // past the capacity.
 #[inline]
-fn locate<T: BitsOwned>(len: usize, index: u32, is_constant: bool) -> Option<(usize, u32)>
+fn locate<T: ReadWords + FixedCapacity>(
+    len: usize,
+    index: u32,
+    is_constant: bool,
+) -> Option<(usize, u32)>
     requires { IsTrue T.indexable }
     ensures { MatchOption result (len * T.type_capacity
         ≡ 0) (λ at. GoesTo len T.type_capacity index at.0 at.1) }
 {
-    let each = T::bits();
+    let each = T::fixed_capacity();
     if each == 0 || len == 0 {
         return None;
     }
@@ -88,7 +94,11 @@ fn locate<T: BitsOwned>(len: usize, index: u32, is_constant: bool) -> Option<(us
 /// Returns whether the bit at `index` of an array or of a slice is set. An index at or past the
 /// capacity wraps. With capacity 0 the call returns `false`.
 #[inline]
-pub fn test_bit<T: BitsOwned, E: Endian>(elements: &[T], index: u32, is_array: bool) -> bool
+pub fn test_bit<T: Bits + FixedCapacity, E: Endian>(
+    elements: &[T],
+    index: u32,
+    is_array: bool,
+) -> bool
     requires { IsTrue T.indexable }
     ensures { result ≡ contains (row_in T.Shape E.Endian elements.now) index }
 {
@@ -101,7 +111,11 @@ pub fn test_bit<T: BitsOwned, E: Endian>(elements: &[T], index: u32, is_array: b
 /// Changes the bit at `index` of an array or of a slice: sets it if `K` is `Ones`, and clears it if
 /// `K` is `Zeros`. An index at or past the capacity wraps. With capacity 0 nothing changes.
 #[inline]
-pub fn put_bit<T: BitsOwned, E: Endian, K: Kind>(elements: &mut [T], index: u32, is_array: bool)
+pub fn put_bit<T: BitsMut + FixedCapacity, E: Endian, K: Kind>(
+    elements: &mut [T],
+    index: u32,
+    is_array: bool,
+)
     requires { IsTrue T.indexable }
     ensures { row_in T.Shape E.Endian elements.new ≡ with_bit K.ONES
         (row_in T.Shape E.Endian elements.old) index }
@@ -116,7 +130,7 @@ pub fn put_bit<T: BitsOwned, E: Endian, K: Kind>(elements: &mut [T], index: u32,
 }
 
 /// Clears every bit.
-pub fn clear_bits<T: BitsOwned>(elements: &mut [T])
+pub fn clear_bits<T: BitsMut + FixedCapacity>(elements: &mut [T])
     ensures { row_of T.Shape elements.new ≡ without_members (row_of T.Shape elements.old) }
 {
     for element in elements.iter_mut() {
@@ -127,7 +141,7 @@ pub fn clear_bits<T: BitsOwned>(elements: &mut [T])
 // Changes each bit of element `at` whose index within the element is in `from..to`, by the
 // operation `O`.
 #[inline]
-fn assign_in_element<T: BitsOwned, E: Endian, O: RangeOperation>(
+fn assign_in_element<T: BitsMut + FixedCapacity, E: Endian, O: RangeOperation>(
     elements: &mut [T],
     at: u32,
     from: u32,
@@ -150,7 +164,11 @@ fn assign_in_element<T: BitsOwned, E: Endian, O: RangeOperation>(
 // that the first index of `from..to` lies in, and the index within this element. The last two are
 // the same for the last index of `from..to`.
 #[inline]
-fn element_ends<T: BitsOwned>(len: usize, from: u32, to: u32) -> (u32, u32, u32, u32, u32)
+fn element_ends<T: ReadWords + FixedCapacity>(
+    len: usize,
+    from: u32,
+    to: u32,
+) -> (u32, u32, u32, u32, u32)
     requires fits { IsTrue T.indexable }
     requires ordered { from < to }
     requires within { to ≤ len * T.type_capacity }
@@ -158,7 +176,7 @@ fn element_ends<T: BitsOwned>(len: usize, from: u32, to: u32) -> (u32, u32, u32,
     ensures at { LiesAt T.type_capacity from to result.1 result.2 result.3 result.4 }
     ensures last { result.3 < len }
 {
-    let each = T::bits();
+    let each = T::fixed_capacity();
     let (first, begin, last, top) = ends(each, from, to);
     (each, first, begin, last, top)
 }
@@ -167,7 +185,7 @@ fn element_ends<T: BitsOwned>(len: usize, from: u32, to: u32) -> (u32, u32, u32,
 /// `Difference` clears them, and `SymmetricDifference` flips them. Each element between the first
 /// and the last one of the range is changed as a whole. If the elements are words, the same mask
 /// changes each of these.
-pub fn assign_range<T: BitsOwned, E: Endian, O: RangeOperation>(
+pub fn assign_range<T: BitsMut + FixedCapacity, E: Endian, O: RangeOperation>(
     elements: &mut [T],
     from: u32,
     to: u32,
@@ -197,7 +215,7 @@ pub fn assign_range<T: BitsOwned, E: Endian, O: RangeOperation>(
 // below `at` combined with those of `ys`, and that `other` is element `at` of `ys`. Then the
 // elements below `at + 1` are combined afterwards.
 #[inline]
-fn combine_element<T: BitsOwned, O: Operation>(elements: &mut [T], at: usize, other: &T)
+fn combine_element<T: BitsMut, O: Operation>(elements: &mut [T], at: usize, other: &T)
     requires { at < length elements.old }
     ensures one_more { (xs ys : List T) → at < length ys → get_or ys at other.now ≡ other.now
         → IsCombinedBelow O.decide T.big xs ys elements.old at
@@ -211,7 +229,7 @@ fn combine_element<T: BitsOwned, O: Operation>(elements: &mut [T], at: usize, ot
 // reads all four of `others` before it changes an element. So the compiled code needs no test
 // whether the two rows overlap.
 #[inline]
-fn combine_four<T: BitsOwned, O: Operation>(elements: &mut [T], others: &[T], from: usize)
+fn combine_four<T: BitsMut + Copy, O: Operation>(elements: &mut [T], others: &[T], from: usize)
     requires elements { from + 4 ≤ length elements.old }
     requires others { from + 4 ≤ length others.now }
     ensures four_more { (xs : List T)
@@ -231,7 +249,11 @@ fn combine_four<T: BitsOwned, O: Operation>(elements: &mut [T], others: &[T], fr
 
 // Combines the first `common` elements with those of `others`, four at a time.
 #[inline]
-fn combine_by_fours<T: BitsOwned, O: Operation>(elements: &mut [T], others: &[T], common: usize)
+fn combine_by_fours<T: BitsMut + Copy, O: Operation>(
+    elements: &mut [T],
+    others: &[T],
+    common: usize,
+)
     requires elements { common ≤ length elements.old }
     requires others { common ≤ length others.now }
     ensures { IsCombinedBelow O.decide T.big elements.old others.now elements.new common }
@@ -247,7 +269,7 @@ fn combine_by_fours<T: BitsOwned, O: Operation>(elements: &mut [T], others: &[T]
 
 // Combines the first `common` elements with those of `others`, one by one.
 #[inline]
-fn combine_each<T: BitsOwned, O: Operation>(elements: &mut [T], others: &[T], common: usize)
+fn combine_each<T: BitsMut, O: Operation>(elements: &mut [T], others: &[T], common: usize)
     requires elements { common ≤ length elements.old }
     requires others { common ≤ length others.now }
     ensures { IsCombinedBelow O.decide T.big elements.old others.now elements.new common }
@@ -260,14 +282,14 @@ fn combine_each<T: BitsOwned, O: Operation>(elements: &mut [T], others: &[T], co
 /// Combines each element with the element of `others` at the same place, if there is one. Elements
 /// that are words of at least 32 bits are combined four at a time.
 #[inline(always)]
-pub fn combine<T: BitsOwned, O: Operation>(elements: &mut [T], others: &[T])
+pub fn combine<T: BitsMut + FixedCapacity + Copy, O: Operation>(elements: &mut [T], others: &[T])
     ensures { (mirrored : Bool) → row_mirrored T.Shape mirrored elements.new
         ≡ combination_of O.decide (row_mirrored T.Shape mirrored elements.old)
         (row_mirrored T.Shape mirrored others.now) }
 {
     let common = elements.len().min(others.len());
     let width = word_width::<T>();
-    if T::bits() == width && 32 <= width {
+    if T::fixed_capacity() == width && 32 <= width {
         combine_by_fours::<T, O>(elements, others, common);
     } else {
         combine_each::<T, O>(elements, others, common);
@@ -275,7 +297,7 @@ pub fn combine<T: BitsOwned, O: Operation>(elements: &mut [T], others: &[T])
 }
 
 /// Counts the set bits.
-pub fn count_ones<T: BitsOwned>(elements: &[T]) -> u32
+pub fn count_ones<T: Bits + FixedCapacity>(elements: &[T]) -> u32
     requires { Fits T.indexable (length elements.now * T.type_capacity) }
     ensures value { result ≡ size (row_of T.Shape elements.now) }
     ensures in_each_order { (mirrored : Bool) → result ≡ size
@@ -291,7 +313,7 @@ pub fn count_ones<T: BitsOwned>(elements: &[T]) -> u32
 
 /// Returns whether an element has no bit of the kind `K`.
 #[inline]
-fn has_none<T: BitsOwned, K: Kind>(element: &T) -> bool
+fn has_none<T: Bits + FixedCapacity, K: Kind>(element: &T) -> bool
     ensures { result ≡ (size (T.big element.now) == cond K.ONES 0 T.type_capacity) }
 {
     if K::ONES {
@@ -304,7 +326,7 @@ fn has_none<T: BitsOwned, K: Kind>(element: &T) -> bool
 // Returns whether none of the elements `from..to` has a bit of the kind `K`. It tests all of these
 // elements, so the compiler can process several at once.
 #[inline]
-fn part_is_without<T: BitsOwned, K: Kind>(elements: &[T], from: usize, to: usize) -> bool
+fn part_is_without<T: Bits + FixedCapacity, K: Kind>(elements: &[T], from: usize, to: usize) -> bool
     requires ordered { from ≤ to }
     requires within { to ≤ length elements.now }
     ensures all_without { result ≡ true → (k : ℕ) (d : T) → from ≤ k → k < to
@@ -322,7 +344,7 @@ fn part_is_without<T: BitsOwned, K: Kind>(elements: &[T], from: usize, to: usize
 // Returns whether no element has a bit of the kind `K`. The caller knows that the elements before
 // `from` have no such bit. The call tests the other elements one by one, until one has such a bit.
 #[inline]
-fn rest_is_without<T: BitsOwned, K: Kind>(elements: &[T], from: usize) -> bool
+fn rest_is_without<T: Bits + FixedCapacity, K: Kind>(elements: &[T], from: usize) -> bool
     requires within { from ≤ length elements.now }
     requires without { (k : ℕ) (d : T) → k < from
         → size (T.big (get_or elements.now k d)) ≡ cond K.ONES 0 T.type_capacity }
@@ -341,7 +363,7 @@ fn rest_is_without<T: BitsOwned, K: Kind>(elements: &[T], from: usize) -> bool
 // this one often decides. If the elements are words, and there are at least eight, it tests eight
 // at a time and the rest one by one. It tests larger elements one by one, since seven of eight
 // tests might be wasted.
-fn is_without_by_turns<T: BitsOwned, K: Kind>(elements: &[T]) -> bool
+fn is_without_by_turns<T: Bits + FixedCapacity, K: Kind>(elements: &[T]) -> bool
     ensures { result ≡ (size (row_of T.Shape elements.now) == cond K.ONES 0
         (length elements.now * T.type_capacity)) }
 {
@@ -351,7 +373,7 @@ fn is_without_by_turns<T: BitsOwned, K: Kind>(elements: &[T]) -> bool
     if !has_none::<T, K>(&elements[0]) {
         return false;
     }
-    if elements.len() < 8 || T::bits() != word_width::<T>() {
+    if elements.len() < 8 || T::fixed_capacity() != word_width::<T>() {
         return rest_is_without::<T, K>(elements, 1);
     }
     for eight in 0..elements.len() / 8 {
@@ -365,7 +387,7 @@ fn is_without_by_turns<T: BitsOwned, K: Kind>(elements: &[T]) -> bool
 // Returns whether no element has a bit of the kind `K`. It tests all elements, and is called for
 // short arrays only.
 #[inline]
-fn is_without_at_once<T: BitsOwned, K: Kind>(elements: &[T]) -> bool
+fn is_without_at_once<T: Bits + FixedCapacity, K: Kind>(elements: &[T]) -> bool
     ensures { result ≡ (size (row_of T.Shape elements.now) == cond K.ONES 0
         (length elements.now * T.type_capacity)) }
 {
@@ -375,7 +397,7 @@ fn is_without_at_once<T: BitsOwned, K: Kind>(elements: &[T]) -> bool
 /// Returns whether no element has a bit of the kind `K`. It tests all elements if `at_once` is
 /// `true`.
 #[inline]
-fn is_without<T: BitsOwned, K: Kind>(elements: &[T], at_once: bool) -> bool
+fn is_without<T: Bits + FixedCapacity, K: Kind>(elements: &[T], at_once: bool) -> bool
     ensures value { result ≡ (size (row_of T.Shape elements.now) == cond K.ONES 0
         (length elements.now * T.type_capacity)) }
     ensures in_each_order { (mirrored : Bool) → result ≡ (size
@@ -390,7 +412,7 @@ fn is_without<T: BitsOwned, K: Kind>(elements: &[T], at_once: bool) -> bool
 
 /// Returns whether no bit is set.
 #[inline]
-pub fn all_zeros<T: BitsOwned>(elements: &[T], at_once: bool) -> bool
+pub fn all_zeros<T: Bits + FixedCapacity>(elements: &[T], at_once: bool) -> bool
     ensures value { result ≡ (size (row_of T.Shape elements.now) == 0) }
     ensures in_each_order { (mirrored : Bool) → result ≡ (size
         (row_mirrored T.Shape mirrored elements.now) == 0) }
@@ -400,7 +422,7 @@ pub fn all_zeros<T: BitsOwned>(elements: &[T], at_once: bool) -> bool
 
 /// Returns whether every bit is set.
 #[inline]
-pub fn all_ones<T: BitsOwned>(elements: &[T], at_once: bool) -> bool
+pub fn all_ones<T: Bits + FixedCapacity>(elements: &[T], at_once: bool) -> bool
     ensures value { result ≡ (size
         (row_of T.Shape elements.now) == length elements.now * T.type_capacity) }
     ensures in_each_order { (mirrored : Bool) → result ≡ (size
@@ -411,18 +433,18 @@ pub fn all_ones<T: BitsOwned>(elements: &[T], at_once: bool) -> bool
 
 /// Returns the element that word `k` of a row lies in, and the number of that word in the element.
 #[inline]
-fn locate_word<T: BitsOwned>(len: usize, k: usize) -> (usize, usize)
+fn locate_word<T: ReadWords + FixedCapacity>(len: usize, k: usize) -> (usize, usize)
     requires fits { Fits T.indexable (len * T.type_capacity) }
     requires within { k * T.width < len * T.type_capacity }
     ensures { GoesTo len T.type_capacity (k * T.width) result.0 (result.1 * T.width) }
 {
-    let each = (T::bits() / word_width::<T>()) as usize;
+    let each = (T::fixed_capacity() / word_width::<T>()) as usize;
     (k / each, k % each)
 }
 
 /// Returns word `k` of the row, which lies in one element.
 #[inline]
-pub fn leaf_word<T: BitsOwned>(elements: &[T], k: usize) -> T::LeafWord
+pub fn leaf_word<T: ReadWords + FixedCapacity>(elements: &[T], k: usize) -> T::LeafWord
     requires fits { Fits T.indexable (length elements.now * T.type_capacity) }
     requires within { k * T.width < length elements.now * T.type_capacity }
     ensures { bit_set T.width (T.LeafWord.pattern result) ≡ word_of T.width
@@ -434,7 +456,7 @@ pub fn leaf_word<T: BitsOwned>(elements: &[T], k: usize) -> T::LeafWord
 
 /// Replaces word `k` of the row, which lies in one element.
 #[inline]
-pub fn set_leaf_word<T: BitsOwned>(elements: &mut [T], k: usize, word: T::LeafWord)
+pub fn set_leaf_word<T: BitsMut + FixedCapacity>(elements: &mut [T], k: usize, word: T::LeafWord)
     requires fits { Fits T.indexable (length elements.old * T.type_capacity) }
     requires within { k * T.width < length elements.old * T.type_capacity }
     ensures { ReplacesWord T.width (row_of T.Shape elements.old) k (bit_set T.width
@@ -459,7 +481,7 @@ fn words_at_end<N: End>(front: usize, back: usize) -> usize
 // passed over all words of `low..high` that lie in the element. The range `low..high` must not be
 // empty.
 #[inline]
-fn pass_over_in_element<T: BitsOwned, K: Kind, N: End>(
+fn pass_over_in_element<T: ReadWords + FixedCapacity, K: Kind, N: End>(
     elements: &[T],
     low: usize,
     high: usize,
@@ -470,7 +492,7 @@ fn pass_over_in_element<T: BitsOwned, K: Kind, N: End>(
     ensures { PassesOver N.FRONT T.width (ones_or_zeros K.ONES (row_of T.Shape elements.now)) low
         high result.0 }
 {
-    let each = (T::bits() / word_width::<T>()) as usize;
+    let each = (T::fixed_capacity() / word_width::<T>()) as usize;
     let word = words_at_end::<N>(low, high - 1);
     let (element, at) = locate_word::<T>(elements.len(), word);
     let start = word - at;
@@ -483,7 +505,7 @@ fn pass_over_in_element<T: BitsOwned, K: Kind, N: End>(
 // Passes over words at the end `N` of `low..high`, one element after another. The elements know
 // that the words passed over have no bit of the kind `K`. The call returns the new `low` if `N` is
 // the front, and the new `high` if `N` is the back.
-fn pass_over_elements<T: BitsOwned, K: Kind, N: End>(
+fn pass_over_elements<T: ReadWords + FixedCapacity, K: Kind, N: End>(
     elements: &[T],
     low: usize,
     high: usize,
@@ -515,7 +537,11 @@ fn pass_over_elements<T: BitsOwned, K: Kind, N: End>(
 ///
 /// It calls `pass_over` of elements only if their type may pass over words.
 #[inline(always)]
-pub fn pass_over<T: BitsOwned, K: Kind, N: End>(elements: &[T], low: usize, high: usize) -> usize
+pub fn pass_over<T: ReadWords + FixedCapacity, K: Kind, N: End>(
+    elements: &[T],
+    low: usize,
+    high: usize,
+) -> usize
     requires fits { Fits T.indexable (length elements.now * T.type_capacity) }
     requires ordered { low ≤ high }
     requires within { high * T.width ≤ length elements.now * T.type_capacity }

@@ -19,8 +19,8 @@ attached g c =
     let w : World = world_of g.row.N (set_in g.B.Shape g.B.Order.Endian) c.args.self.now.alive
     masks in
     let mask = get_or masks c.args.component c.index-self-component.result in
-    let capacity = g.met.B.BitsOwned.one_capacity mask in
-    let all = g.met.B.BitsOwned.one_capacity c.args.self.now.alive in
+    let capacity = g.met.B.FixedCapacity.one_capacity mask in
+    let all = g.met.B.FixedCapacity.one_capacity c.args.self.now.alive in
     let may = may_parts w c.args.entity c.args.component (sym c.may_have.ensures ∙ cc) in
     let inside : c.args.component < length masks = omega (arith, may.0) in
     let below = c.args.self.now.sound.living_are_below c.args.entity may.1 in

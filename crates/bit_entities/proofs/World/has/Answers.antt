@@ -9,7 +9,7 @@ pub returns-then-entity-bits : goal.returns-then-entity-bits
 returns-then-entity-bits g c =
     let masks = c.args.self.now.components in
     let found = c.in-Some.ensures.lookup in
-    let capacity = g.met.B.BitsOwned.one_capacity c.in-Some.mask.now in
+    let capacity = g.met.B.FixedCapacity.one_capacity c.in-Some.mask.now in
     let bits = c.bits.ensures.value c.args.self.now.fits in
     c.test_bit.ensures
     ∙ contains_within _ c.args.entity (omega (arith, capacity, bits, c.if-entity-bits.true))

@@ -13,8 +13,8 @@ returns-in-Some g c ends =
     masks in
     let s : PlainSet = set_in g.B.Shape g.B.Order.Endian c.args.mask in
     let t : PlainSet = set_in g.B.Shape g.B.Order.Endian c.in-Some.those.now in
-    let capacity = g.met.B.BitsOwned.one_capacity c.args.mask in
-    let other = g.met.B.BitsOwned.one_capacity c.in-Some.those.now in
+    let capacity = g.met.B.FixedCapacity.one_capacity c.args.mask in
+    let other = g.met.B.FixedCapacity.one_capacity c.in-Some.those.now in
     let found = c.in-Some.ensures.lookup in
     c.conjunction.ensures g.B.Order.Endian.mirrored
     ∙ kept_by_mask w s t c.args.component (capacity ∙ sym other) ends
@@ -29,6 +29,6 @@ returns-in-None g c ends =
     masks in
     let s : PlainSet = set_in g.B.Shape g.B.Order.Endian c.args.mask in
     c.zeros.ensures.in_each_order g.B.Order.Endian.mirrored
-    ∙ kept_by_none w s c.args.component _ (sym (g.met.B.BitsOwned.one_capacity c.args.mask))
+    ∙ kept_by_none w s c.args.component _ (sym (g.met.B.FixedCapacity.one_capacity c.args.mask))
     (λ k. ap (λ o. is_in (set_in g.B.Shape g.B.Order.Endian) o k)
     (slice_get_past masks c.args.component c.in-None.ensures.lookup.3))

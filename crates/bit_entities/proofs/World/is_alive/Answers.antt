@@ -4,7 +4,7 @@ use Rattle.bit_entities.proofs.World.is_alive.Goals as goal
 
 pub returns-then-entity-bits : goal.returns-then-entity-bits
 returns-then-entity-bits g c =
-    let capacity = g.met.B.BitsOwned.one_capacity c.args.self.now.alive in
+    let capacity = g.met.B.FixedCapacity.one_capacity c.args.self.now.alive in
     let bits = c.bits.ensures.value c.args.self.now.fits in
     c.test_bit.ensures ∙ contains_within _ c.args.entity
     (omega (arith, capacity, bits, c.if-entity-bits.true))

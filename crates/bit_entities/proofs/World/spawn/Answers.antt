@@ -10,7 +10,7 @@ use Rattle.bit_entities.proofs.World.spawn.Goals as goal
 pub returns-in_err-entity-clause-entity : goal.returns-in_err-entity-clause-entity
 returns-in_err-entity-clause-entity g c =
     let alive : PlainSet = set_in g.B.Shape g.B.Order.Endian c.args.self.now.alive in
-    let capacity = g.met.B.BitsOwned.one_capacity c.args.self.now.alive in
+    let capacity = g.met.B.FixedCapacity.one_capacity c.args.self.now.alive in
     let bits = c.bits.ensures.value c.args.self.now.fits in
     c.from_residual.ensures
     ∙ first_listed (complement alive) _ None (bits ∙ sym capacity) c.in_err-entity.ensures
@@ -19,7 +19,7 @@ pub returns-in_err-entity-clause-world : goal.returns-in_err-entity-clause-world
 returns-in_err-entity-clause-world g c =
     let w : World = world_of g.row.N (set_in g.B.Shape g.B.Order.Endian) c.args.self.now.alive
     c.args.self.now.components in
-    let capacity = g.met.B.BitsOwned.one_capacity c.args.self.now.alive in
+    let capacity = g.met.B.FixedCapacity.one_capacity c.args.self.now.alive in
     let bits = c.bits.ensures.value c.args.self.now.fits in
     ap (with_spawned w)
     (first_listed (complement w.alive) _ None (bits ∙ sym capacity) c.in_err-entity.ensures)
@@ -29,7 +29,7 @@ invariant_of-self-clause-sound g c =
     let w : World = world_of g.row.N (set_in g.B.Shape g.B.Order.Endian) c.args.self.now.alive
     c.args.self.now.components in
     let entity = c.in_ok-entity.entity in
-    let capacity = g.met.B.BitsOwned.one_capacity c.args.self.now.alive in
+    let capacity = g.met.B.FixedCapacity.one_capacity c.args.self.now.alive in
     let bits = c.bits.ensures.value c.args.self.now.fits in
     let below : entity < w.alive.capacity = omega (arith, capacity, bits, c.in_ok-entity.ensures.1) in
     subst IsWorld (sym (now_lives w entity _ (c.set_bit.ensures.set ∙ put_in w.alive entity below)))
@@ -38,7 +38,7 @@ invariant_of-self-clause-sound g c =
 pub returns-clause-entity : goal.returns-clause-entity
 returns-clause-entity g c =
     let alive : PlainSet = set_in g.B.Shape g.B.Order.Endian c.args.self.now.alive in
-    let capacity = g.met.B.BitsOwned.one_capacity c.args.self.now.alive in
+    let capacity = g.met.B.FixedCapacity.one_capacity c.args.self.now.alive in
     let bits = c.bits.ensures.value c.args.self.now.fits in
     first_listed (complement alive) _ (Some c.in_ok-entity.entity) (bits ∙ sym capacity)
     c.in_ok-entity.ensures
@@ -48,7 +48,7 @@ returns-clause-world g c =
     let w : World = world_of g.row.N (set_in g.B.Shape g.B.Order.Endian) c.args.self.now.alive
     c.args.self.now.components in
     let entity = c.in_ok-entity.entity in
-    let capacity = g.met.B.BitsOwned.one_capacity c.args.self.now.alive in
+    let capacity = g.met.B.FixedCapacity.one_capacity c.args.self.now.alive in
     let bits = c.bits.ensures.value c.args.self.now.fits in
     now_lives w entity _ (c.set_bit.ensures.set
     ∙ put_in w.alive entity (omega (arith, capacity, bits, c.in_ok-entity.ensures.1)))

@@ -7,7 +7,7 @@ use Rattle.bit_pages.proofs.Pages.is_run_taken.Goals as goal
 pub returns-then-end-bits : goal.returns-then-end-bits
 returns-then-end-bits g c =
     let map : PlainSet = set_in g.B.Shape g.B.Order.Endian c.args.self.now.map in
-    let capacity = g.met.B.BitsOwned.one_capacity c.args.self.now.map in
+    let capacity = g.met.B.FixedCapacity.one_capacity c.args.self.now.map in
     let bits = c.bits.ensures.value c.args.self.now.fits in
     all_taken map c.args.length c.args.first c.in-Some.end c.all_in_range.result (omega arith)
     (omega (arith, capacity, bits, c.if-end-bits.true))

@@ -13,7 +13,7 @@ overflow_add-self g c =
     let new : PlainSet = set_in g.B.Shape g.B.Order.Endian c.take_first_zero_run.new.self in
     let more : size new ≡ size old + c.args.length = ap size c.in_ok-first.ensures.set
     ∙ run_counts old c.args.length c.in_ok-first.first c.in_ok-first.ensures.first.1 in
-    let capacity = g.met.B.BitsOwned.one_capacity c.take_first_zero_run.new.self in
+    let capacity = g.met.B.FixedCapacity.one_capacity c.take_first_zero_run.new.self in
     omega (arith, more, size_at_most new, capacity, c.args.self.now.counted, c.args.self.now.fits.1)
 
 pub invariant_of-self-2 : goal.invariant_of-self-2

@@ -10,7 +10,7 @@ pub returns-clause-roles : goal.returns-clause-roles
 returns-clause-roles g c =
     let granted = c.args.self.now.granted in
     let set = get_or granted c.args.role c.index-self-role.result in
-    let capacity = g.met.B.BitsOwned.one_capacity set in
+    let capacity = g.met.B.FixedCapacity.one_capacity set in
     let bits = c.bits.ensures.value c.args.self.now.fits in
     let inside : c.args.role < length granted = omega arith in
     row_granted g.row.N _ (set_in g.B.Shape g.B.Order.Endian) granted c.args.self.now.parents

@@ -8,7 +8,7 @@ pub returns-then-permission-bits : goal.returns-then-permission-bits
 returns-then-permission-bits g c =
     let granted = c.args.self.now.granted in
     let found = c.in-Some.ensures.lookup in
-    let capacity = g.met.B.BitsOwned.one_capacity c.in-Some.set.now in
+    let capacity = g.met.B.FixedCapacity.one_capacity c.in-Some.set.now in
     let bits = c.bits.ensures.value c.args.self.now.fits in
     c.test_bit.ensures ∙ permission_within (set_in g.B.Shape g.B.Order.Endian) _ c.in-Some.set.now
     c.args.permission

@@ -19,9 +19,9 @@ invariant_of-self g c =
     let live : PlainSet = set_in g.B.Shape g.B.Order.Endian old.live in
     let bits = c.bits.ensures.value old.fits in
     let in_free : slot < free.capacity =
-    omega (arith, bits, g.met.B.BitsOwned.one_capacity old.free, c.in-Some.ensures.1) in
+    omega (arith, bits, g.met.B.FixedCapacity.one_capacity old.free, c.in-Some.ensures.1) in
     let in_live : slot < live.capacity =
-    omega (arith, bits, g.met.B.BitsOwned.one_capacity old.live, c.in-Some.ensures.1) in
+    omega (arith, bits, g.met.B.FixedCapacity.one_capacity old.live, c.in-Some.ensures.1) in
     record {
       fits = old.fits;
       covers = omega (arith, old.covers, c.fill-key.ensures.same_length);

@@ -9,4 +9,4 @@ pub returns : goal.returns
 returns g c =
     let live : PlainSet = set_in g.B.Shape g.B.Order.Endian c.args.self.now.live in
     c.count_ones.ensures.in_each_order g.B.Order.Endian.mirrored ∙ size_where is_live live _ _
-    (g.met.B.BitsOwned.one_capacity c.args.self.now.live) c.args.self.now.marks_live
+    (g.met.B.FixedCapacity.one_capacity c.args.self.now.live) c.args.self.now.marks_live

@@ -14,7 +14,7 @@ invariant_of-self-then-not-is_free g c =
     let live : PlainSet = set_in g.B.Shape g.B.Order.Endian old.live in
     let out = c.in_ok-value.ensures in
     let in_live : c.args.key.slot < live.capacity =
-    omega (arith, old.covers, g.met.B.BitsOwned.one_capacity old.live, out.within) in
+    omega (arith, old.covers, g.met.B.FixedCapacity.one_capacity old.live, out.within) in
     record {
       fits = old.fits;
       covers = omega (arith, old.covers, out.same_length);
@@ -31,9 +31,9 @@ invariant_of-self-2 g c =
     let live : PlainSet = set_in g.B.Shape g.B.Order.Endian old.live in
     let out = c.in_ok-value.ensures in
     let in_free : c.args.key.slot < free.capacity =
-    omega (arith, old.covers, g.met.B.BitsOwned.one_capacity old.free, out.within) in
+    omega (arith, old.covers, g.met.B.FixedCapacity.one_capacity old.free, out.within) in
     let in_live : c.args.key.slot < live.capacity =
-    omega (arith, old.covers, g.met.B.BitsOwned.one_capacity old.live, out.within) in
+    omega (arith, old.covers, g.met.B.FixedCapacity.one_capacity old.live, out.within) in
     record {
       fits = old.fits;
       covers = omega (arith, old.covers, out.same_length);

@@ -10,7 +10,7 @@ loop-slot-preserved g c =
     let set : PlainSet = set_in g.B.Shape g.B.Order.Endian c.loop-slot.set in
     let slot = c.loop-slot.slot in
     let within : slot < set.capacity =
-    omega (arith, c.requires.covers, g.met.B.BitsOwned.one_capacity c.loop-slot.set) in
+    omega (arith, c.requires.covers, g.met.B.FixedCapacity.one_capacity c.loop-slot.set) in
     let passes : is_slot is_live c.args.row.now slot ≡ c.is_live.result =
     slot_is is_live c.args.row.now slot c.index-row-slot.result (omega arith)
     ∙ sym (ap is_live c.index-row-slot.is) ∙ sym c.is_live.ensures in

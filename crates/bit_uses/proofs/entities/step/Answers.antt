@@ -30,7 +30,7 @@ loop-entity-init g c =
 within : (g : Over) (c : In-Some g) → c.in-Some.entity < g.B.Shape.type_capacity
 within g c = omega (
   arith,
-  g.met.B.BitsOwned.one_capacity c.args.world.now.alive,
+  g.met.B.FixedCapacity.one_capacity c.args.world.now.alive,
   next_below _ _ _ _ _ _ _ _ c.loop-entity.invariant.stepped c.in-Some.ensures.steps.gave,
 )
 

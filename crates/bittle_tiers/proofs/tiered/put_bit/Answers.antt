@@ -19,12 +19,12 @@ refresh-requires-clause-word g c =
     let wide = c.word_width.ensures in
     let fits = map_indexable g.B.Shape.indexable g.S.Shape.indexable g.B.Shape.type_capacity
     g.S.Shape.type_capacity g.B.Shape.width c.args.tiered.now.fits in
-    let bits : c.bits-bits.result ≡ g.B.Shape.type_capacity =
-    c.bits-bits.ensures.value (fits, g.met.B.BitsOwned.type_fits fits) in
-    let size = g.met.B.BitsOwned.one_capacity c.put_bit.new.map in
-    let at = c.args.index % c.bits-bits.result in
-    let below : at < c.bits-bits.result =
-    mod_below c.args.index c.bits-bits.result (omega (arith, c.if-bits-ne0.true)) in
+    let bits : c.fixed_capacity-bits.result ≡ g.B.Shape.type_capacity =
+    c.fixed_capacity-bits.ensures.value (fits, g.met.B.FixedCapacity.type_fits fits) in
+    let size = g.met.B.FixedCapacity.one_capacity c.put_bit.new.map in
+    let at = c.args.index % c.fixed_capacity-bits.result in
+    let below : at < c.fixed_capacity-bits.result =
+    mod_below c.args.index c.fixed_capacity-bits.result (omega (arith, c.if-bits-ne0.true)) in
     rw wide (index_word g.B.Shape.width at _ (omega (arith, below, bits, size)))
 
 pub refresh-requires-clause-known : goal.refresh-requires-clause-known
@@ -37,13 +37,13 @@ refresh-requires-clause-known g c = λ known.
     let wide = c.word_width.ensures in
     let fits = map_indexable g.B.Shape.indexable g.S.Shape.indexable g.B.Shape.type_capacity
     g.S.Shape.type_capacity w before.fits in
-    let bits : c.bits-bits.result ≡ g.B.Shape.type_capacity =
-    c.bits-bits.ensures.value (fits, g.met.B.BitsOwned.type_fits fits) in
-    let size = g.met.B.BitsOwned.one_capacity before.map in
-    let size_now = g.met.B.BitsOwned.one_capacity c.put_bit.new.map in
-    let at = c.args.index % c.bits-bits.result in
-    let below : at < c.bits-bits.result =
-    mod_below c.args.index c.bits-bits.result (omega (arith, c.if-bits-ne0.true)) in
+    let bits : c.fixed_capacity-bits.result ≡ g.B.Shape.type_capacity =
+    c.fixed_capacity-bits.ensures.value (fits, g.met.B.FixedCapacity.type_fits fits) in
+    let size = g.met.B.FixedCapacity.one_capacity before.map in
+    let size_now = g.met.B.FixedCapacity.one_capacity c.put_bit.new.map in
+    let at = c.args.index % c.fixed_capacity-bits.result in
+    let below : at < c.fixed_capacity-bits.result =
+    mod_below c.args.index c.fixed_capacity-bits.result (omega (arith, c.if-bits-ne0.true)) in
     let is : at ≡ c.args.index % s.capacity = ap (λ n. c.args.index % n) (bits ∙ sym size) in
     rw (sym kind, wide) (some_put g.V.Kind.ONES g.E.Endian.mirrored w c.args.index at s t
     g.met.B.ReadWords.width_positive (g.met.B.ReadWords.whole_words before.map)
@@ -57,14 +57,14 @@ refresh-requires-clause-within g c =
     g.S.Shape.type_capacity w c.args.tiered.now.fits in
     let reach = summary_reaches g.B.Shape.indexable g.S.Shape.indexable g.B.Shape.type_capacity
     g.S.Shape.type_capacity w c.args.tiered.now.fits in
-    let bits : c.bits-bits.result ≡ g.B.Shape.type_capacity =
-    c.bits-bits.ensures.value (fits, g.met.B.BitsOwned.type_fits fits) in
-    let size = g.met.S.BitsOwned.one_capacity c.args.tiered.now.summary in
-    let at = c.args.index % c.bits-bits.result in
-    let below : at < c.bits-bits.result =
-    mod_below c.args.index c.bits-bits.result (omega (arith, c.if-bits-ne0.true)) in
+    let bits : c.fixed_capacity-bits.result ≡ g.B.Shape.type_capacity =
+    c.fixed_capacity-bits.ensures.value (fits, g.met.B.FixedCapacity.type_fits fits) in
+    let size = g.met.S.FixedCapacity.one_capacity c.args.tiered.now.summary in
+    let at = c.args.index % c.fixed_capacity-bits.result in
+    let below : at < c.fixed_capacity-bits.result =
+    mod_below c.args.index c.fixed_capacity-bits.result (omega (arith, c.if-bits-ne0.true)) in
     let k = at / w in
-    let ends = word_ends w k g.B.Shape.type_capacity g.met.B.BitsOwned.type_whole_words
+    let ends = word_ends w k g.B.Shape.type_capacity g.met.B.FixedCapacity.type_whole_words
     (index_word w at g.B.Shape.type_capacity (omega (arith, below, bits))) in
     let next : (k + 1) * w ≤ g.B.Shape.type_capacity = omega (arith, ends) in
     let enough = reaches w (k + 1) g.B.Shape.type_capacity g.B.Shape.type_capacity
@@ -80,11 +80,11 @@ invariant_of-tiered g c =
     let wide = c.word_width.ensures in
     let fits = map_indexable g.B.Shape.indexable g.S.Shape.indexable g.B.Shape.type_capacity
     g.S.Shape.type_capacity w before.fits in
-    let bits : c.bits-bits.result ≡ g.B.Shape.type_capacity =
-    c.bits-bits.ensures.value (fits, g.met.B.BitsOwned.type_fits fits) in
-    let size = g.met.B.BitsOwned.one_capacity before.map in
-    let size_now = g.met.B.BitsOwned.one_capacity c.put_bit.new.map in
-    let at = c.args.index % c.bits-bits.result in
+    let bits : c.fixed_capacity-bits.result ≡ g.B.Shape.type_capacity =
+    c.fixed_capacity-bits.ensures.value (fits, g.met.B.FixedCapacity.type_fits fits) in
+    let size = g.met.B.FixedCapacity.one_capacity before.map in
+    let size_now = g.met.B.FixedCapacity.one_capacity c.put_bit.new.map in
+    let at = c.args.index % c.fixed_capacity-bits.result in
     let is : at ≡ c.args.index % s.capacity = ap (λ n. c.args.index % n) (bits ∙ sym size) in
     record {
       fits = before.fits;

@@ -17,19 +17,19 @@ returns-then-level-ne0 g c =
     c.args.n c.groups_told.result (sym c.word_width.ensures ∙ c.if-word_width-ne64.false)
     (omega (arith, c.if-level-ne0.true)) c.groups_told.ensures
 
-pub returns-then-bits-n : goal.returns-then-bits-n
-returns-then-bits-n g c =
+pub returns-then-fixed_capacity-n : goal.returns-then-fixed_capacity-n
+returns-then-fixed_capacity-n g c =
     let law = g.met.B.ReadWords in
-    let own = g.met.S.BitsOwned in
+    let own = g.met.S.FixedCapacity in
     let wide : g.S.Shape.width ≡ 64 = sym c.word_width.ensures ∙ c.if-word_width-ne64.false in
-    let is = c.bits.ensures.value (c.requires.fits, own.type_fits c.requires.fits) in
+    let is = c.fixed_capacity.ensures.value (c.requires.fits, own.type_fits c.requires.fits) in
     let whole = own.type_whole_words in
     tells_past g.K.Kind.ONES g.B.Shape.width (g.B.Shape.big c.args.map.now)
     (g.S.Shape.big c.args.summary.now) law.width_positive (law.whole_words c.args.map.now)
     c.requires.tells (law.none_past c.args.map.now) c.args.level c.args.n g.S.Shape.type_capacity
     c.if-level-ne0.false
-    (omega (arith, g.met.B.BitsOwned.one_capacity c.args.map.now, c.requires.reaches))
-    (whole.0, whole.1 ∙ ap (λ v. whole.0 * v) wide) (rw is at c.if-bits-n.true) _
+    (omega (arith, g.met.B.FixedCapacity.one_capacity c.args.map.now, c.requires.reaches))
+    (whole.0, whole.1 ∙ ap (λ v. whole.0 * v) wide) (rw is at c.if-fixed_capacity-n.true) _
 
 pub returns : goal.returns
 returns g c =

@@ -10,13 +10,13 @@ returns-in-Some g c =
     let w = g.B.Shape.width in
     let big = g.B.Shape.big c.args.map.now in
     let fits = c.requires.map_fits in
-    let own = g.met.B.BitsOwned in
-    let count = words_counted c.bits.result c.word_width.result w g.B.Shape.type_capacity
-    law.width_positive (c.bits.ensures.value (fits, own.type_fits fits))
+    let own = g.met.B.FixedCapacity in
+    let count = words_counted c.fixed_capacity.result c.word_width.result w g.B.Shape.type_capacity
+    law.width_positive (c.fixed_capacity.ensures.value (fits, own.type_fits fits))
     c.word_width.ensures own.type_whole_words in
     let found = rw c.in-Some.is at c.end_in.ensures in
     let k = c.in-Some.field-0 in
-    let up : (k + 1) * w ≤ c.bits.result / c.word_width.result * w = mul-le-mul_right w
+    let up : (k + 1) * w ≤ c.fixed_capacity.result / c.word_width.result * w = mul-le-mul_right w
     (omega (arith, found.1)) in
     sym (ne_eqb _ 0 (some_at_all g.K.Kind.ONES w big (g.S.Shape.big c.args.summary.now)
     law.width_positive (law.whole_words c.args.map.now) c.requires.tells k
@@ -28,11 +28,11 @@ returns-in-None g c =
     let w = g.B.Shape.width in
     let big = g.B.Shape.big c.args.map.now in
     let fits = c.requires.map_fits in
-    let own = g.met.B.BitsOwned in
-    let count = words_counted c.bits.result c.word_width.result w g.B.Shape.type_capacity
-    law.width_positive (c.bits.ensures.value (fits, own.type_fits fits))
+    let own = g.met.B.FixedCapacity in
+    let count = words_counted c.fixed_capacity.result c.word_width.result w g.B.Shape.type_capacity
+    law.width_positive (c.fixed_capacity.ensures.value (fits, own.type_fits fits))
     c.word_width.ensures own.type_whole_words in
     sym (eq-eqb _ 0 (none_at_all g.K.Kind.ONES w big (g.S.Shape.big c.args.summary.now)
     law.width_positive (law.whole_words c.args.map.now) c.requires.tells
-    (c.bits.result / c.word_width.result) (own.one_capacity c.args.map.now ∙ count)
+    (c.fixed_capacity.result / c.word_width.result) (own.one_capacity c.args.map.now ∙ count)
     (rw c.in-None.is at c.end_in.ensures)))

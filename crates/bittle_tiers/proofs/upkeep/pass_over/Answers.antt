@@ -5,14 +5,14 @@ use Rattle.bittle_tiers.proofs.upkeep.pass_over.Goals as goal
 pub overflow_cast-low : goal.overflow_cast-low
 overflow_cast-low g c =
     let high = reaches _ c.args.high _ _ _ g.met.B.ReadWords.width_positive c.requires.within
-    (g.met.B.BitsOwned.one_capacity c.args.map.now) c.requires.reaches in
-    omega (arith, high, c.requires.ordered, g.met.S.BitsOwned.type_fits c.requires.fits)
+    (g.met.B.FixedCapacity.one_capacity c.args.map.now) c.requires.reaches in
+    omega (arith, high, c.requires.ordered, g.met.S.FixedCapacity.type_fits c.requires.fits)
 
 pub overflow_cast-high : goal.overflow_cast-high
 overflow_cast-high g c =
     let high = reaches _ c.args.high _ _ _ g.met.B.ReadWords.width_positive c.requires.within
-    (g.met.B.BitsOwned.one_capacity c.args.map.now) c.requires.reaches in
-    omega (arith, high, g.met.S.BitsOwned.type_fits c.requires.fits)
+    (g.met.B.FixedCapacity.one_capacity c.args.map.now) c.requires.reaches in
+    omega (arith, high, g.met.S.FixedCapacity.type_fits c.requires.fits)
 
 pub returns-then-FRONT-clause-passes : goal.returns-then-FRONT-clause-passes
 returns-then-FRONT-clause-passes g c =

@@ -7,9 +7,9 @@ returns g c = λ k within.
     let law = g.met.B.ReadWords in
     let big = g.B.Shape.big c.args.map.now in
     let fits = c.requires.map_fits in
-    let bits = c.bits.ensures.value (fits, g.met.B.BitsOwned.type_fits fits) in
-    let size = g.met.B.BitsOwned.one_capacity c.args.map.now in
-    let count : c.bits.result / c.word_width.result ≡ big.capacity / g.B.Shape.width =
+    let bits = c.fixed_capacity.ensures.value (fits, g.met.B.FixedCapacity.type_fits fits) in
+    let size = g.met.B.FixedCapacity.one_capacity c.args.map.now in
+    let count : c.fixed_capacity.result / c.word_width.result ≡ big.capacity / g.B.Shape.width =
     rw (bits, c.word_width.ensures, size) refl in
     c.loop-k.invariant k (omega (
       arith,

@@ -3,5 +3,5 @@ use Rattle.bittle_uses.proofs.Subsets.{tells, none_in_one}
 use Rattle.bittle_uses.proofs.relations.have_same_members.Goals as goal
 
 pub returns-else-eq : goal.returns-else-eq
-returns-else-eq g c = tells _ _ g.met.B.BitsOwned.one_capacity g.met.B.ReadWords.none_past _ _
+returns-else-eq g c = tells _ _ g.met.B.FixedCapacity.one_capacity g.met.B.ReadWords.none_past _ _
     none_in_one refl _ _ (c.symmetric_difference.ensures false) c.all_zeros.ensures.value

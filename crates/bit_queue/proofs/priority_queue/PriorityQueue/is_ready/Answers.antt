@@ -4,7 +4,7 @@ use Rattle.bit_queue.proofs.priority_queue.PriorityQueue.is_ready.Goals as goal
 
 pub returns-then-task-bits : goal.returns-then-task-bits
 returns-then-task-bits g c =
-    let capacity = g.met.B.BitsOwned.one_capacity c.args.self.now.ready in
+    let capacity = g.met.B.FixedCapacity.one_capacity c.args.self.now.ready in
     let bits = c.bits.ensures.value c.args.self.now.fits in
     c.test_bit.ensures ∙ sym (is_ready-within _ c.args.task
     (omega (arith, capacity, bits, c.if-task-bits.true)))

@@ -4,12 +4,12 @@ use Rattle.bit_queue.proofs.priority_queue.PriorityQueue.wake.Goals as goal
 
 pub returns-clause-is_ready : goal.returns-clause-is_ready
 returns-clause-is_ready g c h =
-    let capacity = g.met.B.BitsOwned.one_capacity c.args.self.now.ready in
+    let capacity = g.met.B.FixedCapacity.one_capacity c.args.self.now.ready in
     is_now_ready _ _ c.args.task (omega (arith, capacity, h)) c.set_bit.ensures.set
 
 pub returns-clause-ready : goal.returns-clause-ready
 returns-clause-ready g c =
-    let capacity = g.met.B.BitsOwned.one_capacity c.args.self.now.ready in
+    let capacity = g.met.B.FixedCapacity.one_capacity c.args.self.now.ready in
     let bits = c.bits.ensures.value c.args.self.now.fits in
     is_woken _ _ c.args.task (omega (arith, capacity, bits, c.if-task-bits.false))
     c.set_bit.ensures.set

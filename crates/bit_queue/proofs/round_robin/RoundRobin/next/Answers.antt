@@ -8,20 +8,20 @@ use Rattle.bit_queue.proofs.round_robin.RoundRobin.next.Goals as goal
 
 pub returns-in_err-task-clause-next : goal.returns-in_err-task-clause-next
 returns-in_err-task-clause-next g c =
-    let capacity = g.met.B.BitsOwned.one_capacity c.args.self.now.ready in
+    let capacity = g.met.B.FixedCapacity.one_capacity c.args.self.now.ready in
     next_found _ c.args.self.now.turn _ c.from_residual.result (sym capacity)
     (c.from_residual.ensures ∙ c.in_err-task.ensures)
 
 pub overflow_add-self : goal.overflow_add-self
 overflow_add-self g c =
-    let capacity = g.met.B.BitsOwned.one_capacity c.args.self.now.ready in
+    let capacity = g.met.B.FixedCapacity.one_capacity c.args.self.now.ready in
     let next = next_found _ c.args.self.now.turn _ (Some c.in_ok-task.task) (sym capacity)
     c.in_ok-task.ensures in
     omega (arith, capacity, next.within, c.args.self.now.fits.1)
 
 pub invariant_of-self : goal.invariant_of-self
 invariant_of-self g c =
-    let capacity = g.met.B.BitsOwned.one_capacity c.args.self.now.ready in
+    let capacity = g.met.B.FixedCapacity.one_capacity c.args.self.now.ready in
     let next = next_found _ c.args.self.now.turn _ (Some c.in_ok-task.task) (sym capacity)
     c.in_ok-task.ensures in record {
       fits = c.args.self.now.fits;
@@ -30,7 +30,7 @@ invariant_of-self g c =
 
 pub returns-clause-next : goal.returns-clause-next
 returns-clause-next g c =
-    let capacity = g.met.B.BitsOwned.one_capacity c.args.self.now.ready in
+    let capacity = g.met.B.FixedCapacity.one_capacity c.args.self.now.ready in
     next_found _ c.args.self.now.turn _ (Some c.in_ok-task.task) (sym capacity)
     c.in_ok-task.ensures
 

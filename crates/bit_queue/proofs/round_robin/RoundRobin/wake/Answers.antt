@@ -5,12 +5,12 @@ use Rattle.bit_queue.proofs.round_robin.RoundRobin.wake.Goals as goal
 
 pub returns-clause-is_ready : goal.returns-clause-is_ready
 returns-clause-is_ready g c h =
-    let capacity = g.met.B.BitsOwned.one_capacity c.args.self.now.ready in
+    let capacity = g.met.B.FixedCapacity.one_capacity c.args.self.now.ready in
     is_now_ready _ _ c.args.task (omega (arith, capacity, h)) c.set_bit.ensures.set
 
 pub returns-clause-round : goal.returns-clause-round
 returns-clause-round g c =
-    let capacity = g.met.B.BitsOwned.one_capacity c.args.self.now.ready in
+    let capacity = g.met.B.FixedCapacity.one_capacity c.args.self.now.ready in
     let bits = c.bits.ensures.value c.args.self.now.fits in
     ap (λ s. round_at s c.args.self.now.turn)
     (is_woken _ _ c.args.task (omega (arith, capacity, bits, c.if-task-bits.false))

@@ -8,7 +8,7 @@ returns-clause-value g c = row_set-full _ _ g.T.Shape.big _ c.ones.ensures.value
 
 pub returns-clause-in_each_order : goal.returns-clause-in_each_order
 returns-clause-in_each_order g c = full_set_in_each_order _ _ _ g.met.T.ReadWords.width_positive
-    (words_of _ _ _ g.met.T.BitsOwned.type_whole_words) (returns-clause-value g c)
+    (words_of _ _ _ g.met.T.FixedCapacity.type_whole_words) (returns-clause-value g c)
 
 pub returns-clause-in_own_order : goal.returns-clause-in_own_order
 returns-clause-in_own_order g c = returns-clause-value g c

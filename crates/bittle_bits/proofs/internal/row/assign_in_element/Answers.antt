@@ -9,6 +9,6 @@ returns-clause-set g c =
     row_changed (λ b. g.O.Operation.decide b true) g.E.Endian.mirrored g.T.Shape.width
     g.T.Shape.type_capacity (length xs) c.args.at g.T.Shape.big xs x
     c.assign_range_by_operation.new.self g.met.T.ReadWords.width_positive
-    g.met.T.BitsOwned.type_whole_words c.requires.element refl
+    g.met.T.FixedCapacity.type_whole_words c.requires.element refl
     (ap (λ (d : g.row.T.Denot). get_or xs c.args.at d) c.index-elements-at.is) c.args.from c.args.to
     c.requires.within c.assign_range_by_operation.ensures.set

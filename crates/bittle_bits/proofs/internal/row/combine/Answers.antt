@@ -17,9 +17,9 @@ rows : (g : Over) (xs ys zs : List g.row.T.Denot) (common : ℕ) (mirrored : Boo
     row zs ≡ combination_of g.O.Operation.decide (row xs) (row ys)
 rows g xs ys zs common mirrored least all =
     let T = g.met.T in
-    let whole = T.BitsOwned.type_whole_words in
+    let whole = T.FixedCapacity.type_whole_words in
     ap (read_in mirrored g.T.Shape.width) (row_combined g.O.Operation.decide
-    g.T.Shape.type_capacity g.T.Shape.big xs ys zs T.BitsOwned.one_capacity all.same
+    g.T.Shape.type_capacity g.T.Shape.big xs ys zs T.FixedCapacity.one_capacity all.same
     (λ k d a b. all.done k d (omega arith)) (λ k d b. all.rest k d (omega arith)))
     ∙ members-combination _ mirrored _ _ _ T.ReadWords.width_positive
     (words_of (length xs) _ _ whole) (words_of (length ys) _ _ whole)
@@ -28,5 +28,5 @@ pub returns-then-width-ge32 : goal.returns-then-width-ge32
 returns-then-width-ge32 g c mirrored =
     rows g _ _ _ _ mirrored (omega arith) c.combine_by_fours.ensures
 
-pub returns-else-bits-width : goal.returns-else-bits-width
-returns-else-bits-width g c mirrored = rows g _ _ _ _ mirrored (omega arith) c.combine_each.ensures
+pub returns-else-fixed_capacity-width : goal.returns-else-fixed_capacity-width
+returns-else-fixed_capacity-width g c mirrored = rows g _ _ _ _ mirrored (omega arith) c.combine_each.ensures

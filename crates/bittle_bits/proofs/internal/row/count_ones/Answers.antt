@@ -10,7 +10,7 @@ pub overflow_add-total : goal.overflow_add-total
 overflow_add-total g c =
     let x = c.element-item.result in
     let b = row_count_fits g.T.Shape.type_capacity g.T.Shape.big c.args.elements.now
-    g.met.T.BitsOwned.one_capacity c.loop-element.element-index c.loop-element.total
+    g.met.T.FixedCapacity.one_capacity c.loop-element.element-index c.loop-element.total
     c.count_ones-total.result x c.count_ones-total.ensures.value c.element-item.is
     (omega arith) c.loop-element.invariant in
     omega (arith, b, c.requires.1)
@@ -28,7 +28,7 @@ loop-element-preserved g c =
     )
 
 pub returns-clause-value : goal.returns-clause-value
-returns-clause-value g c = row_count_all _ _ _ g.met.T.BitsOwned.one_capacity
+returns-clause-value g c = row_count_all _ _ _ g.met.T.FixedCapacity.one_capacity
     c.loop-element.element-index _ (omega arith) c.loop-element.invariant
 
 pub returns-clause-at_most : goal.returns-clause-at_most
@@ -36,4 +36,4 @@ returns-clause-at_most g c = size-most _ _ (returns-clause-value g c)
 
 pub returns-clause-in_each_order : goal.returns-clause-in_each_order
 returns-clause-in_each_order g c = size_in_each_order _ _ (λ n. n) _ g.met.T.ReadWords.width_positive
-    (words_of _ _ _ g.met.T.BitsOwned.type_whole_words) (returns-clause-value g c)
+    (words_of _ _ _ g.met.T.FixedCapacity.type_whole_words) (returns-clause-value g c)

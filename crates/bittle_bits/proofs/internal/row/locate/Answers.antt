@@ -19,18 +19,18 @@ wraps g c =
           λ low. omega (arith, (row.fits low).1, large) in
           let even = even_capacity c.args.len _ _ _
           (sym g.met.T.ReadWords.leaf_width ∙ g.met.T.LeafWord.Word.whole_bytes.1)
-          g.met.T.BitsOwned.type_whole_words in
+          g.met.T.FixedCapacity.type_whole_words in
           c.wrapped-within.ensures.past (omega (arith, past, c.bits_capacity.type_inv))
           ∙ wraps_nowhere _ _ even large (omega (arith, c.ranges.index))
     ]
 
 pub returns-then-is_constant : goal.returns-then-is_constant
 returns-then-is_constant g c =
-    let each = c.bits-each.ensures.value (c.requires, g.met.T.BitsOwned.type_fits c.requires) in
+    let each = c.fixed_capacity-each.ensures.value (c.requires, g.met.T.FixedCapacity.type_fits c.requires) in
     goes_to _ _ _ _ _ each (omega arith) (omega (arith, each)) refl
 
 pub returns : goal.returns
 returns g c =
-    let each = c.bits-each.ensures.value (c.requires, g.met.T.BitsOwned.type_fits c.requires) in
+    let each = c.fixed_capacity-each.ensures.value (c.requires, g.met.T.FixedCapacity.type_fits c.requires) in
     goes_wrapped _ _ _ _ _ each (omega arith) (omega (arith, each))
     (wraps g (goal.at.returns g c).After-wrapped-within)

@@ -6,21 +6,21 @@ use Rattle.bittle_bits.proofs.internal.row.locate_word.Goals as goal
 
 -- how many words an element has
 each : (g : Over) (c : After-word_width g) →
-    c.bits.result / c.word_width.result ≡ g.met.T.BitsOwned.type_whole_words.0
+    c.fixed_capacity.result / c.word_width.result ≡ g.met.T.FixedCapacity.type_whole_words.0
 each g c = words_each _ _ _ _ _ g.met.T.ReadWords.width_positive
-    (c.bits.ensures.value (c.requires.fits.0, g.met.T.BitsOwned.type_fits c.requires.fits.0))
-    c.word_width.ensures g.met.T.BitsOwned.type_whole_words.1
+    (c.fixed_capacity.ensures.value (c.requires.fits.0, g.met.T.FixedCapacity.type_fits c.requires.fits.0))
+    c.word_width.ensures g.met.T.FixedCapacity.type_whole_words.1
 
 pub nonzero_div-result : goal.nonzero_div-result
 nonzero_div-result g c = rw (each g (goal.at.nonzero_div-result g c).After-word_width)
-    (some_words _ _ _ _ _ g.met.T.BitsOwned.type_whole_words.1 c.requires.within)
+    (some_words _ _ _ _ _ g.met.T.FixedCapacity.type_whole_words.1 c.requires.within)
 
 pub nonzero_rem-result : goal.nonzero_rem-result
 nonzero_rem-result g c = rw (each g (goal.at.nonzero_rem-result g c).After-word_width)
-    (some_words _ _ _ _ _ g.met.T.BitsOwned.type_whole_words.1 c.requires.within)
+    (some_words _ _ _ _ _ g.met.T.FixedCapacity.type_whole_words.1 c.requires.within)
 
 pub returns : goal.returns
 returns g c =
-    let w = g.met.T.BitsOwned.type_whole_words in
+    let w = g.met.T.FixedCapacity.type_whole_words in
     rw (each g (goal.at.returns g c).After-word_width)
     (word_goes _ _ _ w.0 _ g.met.T.ReadWords.width_positive w.1 c.requires.within)

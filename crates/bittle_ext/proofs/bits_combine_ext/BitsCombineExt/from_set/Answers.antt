@@ -7,4 +7,4 @@ pub returns : goal.returns
 returns g c =
     c.copy_from.ensures.set
     ∙ ap (λ n. members_to n (set_in g.B.Shape g.B.Order.Endian c.args.other.now))
-    (g.met.Self.BitsOwned.one_capacity c.zeros-set.result)
+    (g.met.Self.FixedCapacity.one_capacity c.zeros-set.result)

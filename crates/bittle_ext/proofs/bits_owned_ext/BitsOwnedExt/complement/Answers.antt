@@ -9,7 +9,7 @@ returns-clause-in_each_order g c m =
     let s = set_mirrored g.Self.Shape m c.args.self in
     c.difference.ensures m
     ∙ ap (λ u. combination_of first_alone u s) (c.ones.ensures.in_each_order m)
-    ∙ full_without _ s (g.met.Self.BitsOwned.one_capacity c.args.self)
+    ∙ full_without _ s (g.met.Self.FixedCapacity.one_capacity c.args.self)
 
 pub returns-clause-value : goal.returns-clause-value
 returns-clause-value g c = returns-clause-in_each_order g c false

@@ -6,10 +6,10 @@ use Rattle.bittle_ext.proofs.bits_owned_ext.BitsOwnedExt.shifted_down.Goals as g
 pub returns-clause-moved : goal.returns-clause-moved
 returns-clause-moved g c i h =
     ap (λ s. contains s i) c.shift_down.ensures.set
-    ∙ shifted_from _ _ i (omega (arith, h, g.met.Self.BitsOwned.one_capacity c.args.self))
+    ∙ shifted_from _ _ i (omega (arith, h, g.met.Self.FixedCapacity.one_capacity c.args.self))
 
 pub returns-clause-emptied : goal.returns-clause-emptied
 returns-clause-emptied g c i h l =
     ap (λ s. contains s i) c.shift_down.ensures.set
-    ∙ emptied_above _ _ i (omega (arith, h, g.met.Self.BitsOwned.one_capacity c.args.self))
-    (omega (arith, l, g.met.Self.BitsOwned.one_capacity c.args.self))
+    ∙ emptied_above _ _ i (omega (arith, h, g.met.Self.FixedCapacity.one_capacity c.args.self))
+    (omega (arith, l, g.met.Self.FixedCapacity.one_capacity c.args.self))

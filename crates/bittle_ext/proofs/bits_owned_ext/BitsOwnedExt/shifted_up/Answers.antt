@@ -6,9 +6,9 @@ use Rattle.bittle_ext.proofs.bits_owned_ext.BitsOwnedExt.shifted_up.Goals as goa
 pub returns-clause-moved : goal.returns-clause-moved
 returns-clause-moved g c i h =
     ap (λ s. contains s (i + c.args.by)) c.shift_up.ensures.set
-    ∙ shifted_to _ _ i (omega (arith, h, g.met.Self.BitsOwned.one_capacity c.args.self))
+    ∙ shifted_to _ _ i (omega (arith, h, g.met.Self.FixedCapacity.one_capacity c.args.self))
 
 pub returns-clause-emptied : goal.returns-clause-emptied
 returns-clause-emptied g c i h l =
     ap (λ s. contains s i) c.shift_up.ensures.set
-    ∙ emptied_below _ _ i (omega (arith, h, g.met.Self.BitsOwned.one_capacity c.args.self)) l
+    ∙ emptied_below _ _ i (omega (arith, h, g.met.Self.FixedCapacity.one_capacity c.args.self)) l

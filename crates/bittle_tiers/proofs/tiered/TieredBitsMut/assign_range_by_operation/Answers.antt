@@ -12,7 +12,7 @@ refresh_range-requires-clause-others g c =
     let w = g.B.Shape.width in
     let before = c.args.self.now in
     let after = c.assign_range_by_operation.new.self in
-    let own = g.met.B.BitsOwned in
+    let own = g.met.B.FixedCapacity in
     let some : c.args.from < c.args.to = omega (arith, c.requires.ordered, c.if-from-to.false) in
     rw (c.word_width-width.ensures) (tells_around g.K.Kind.ONES
     (λ b. g.O.Operation.decide b true) g.E.Endian.mirrored w c.args.from c.args.to

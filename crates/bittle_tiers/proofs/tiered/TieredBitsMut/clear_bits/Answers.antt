@@ -8,7 +8,7 @@ use Rattle.bittle_tiers.proofs.tiered.TieredBitsMut.clear_bits.Goals as goal
 pub invariant_of-self : goal.invariant_of-self
 invariant_of-self g c =
     let w = g.B.Shape.width in
-    let own = g.met.B.BitsOwned in
+    let own = g.met.B.FixedCapacity in
     let before = c.args.self.now in
     let reach = summary_reaches g.B.Shape.indexable g.S.Shape.indexable g.B.Shape.type_capacity
     g.S.Shape.type_capacity w before.fits in

@@ -13,7 +13,7 @@ invariant_of-result g c =
       fits = c.requires;
       tells = empty_tells g.K.Kind.ONES w g.B.Shape.type_capacity g.S.Shape.type_capacity
           (g.B.Shape.big c.zeros.result) (g.S.Shape.big c.even.result)
-          g.met.B.ReadWords.width_positive g.met.B.BitsOwned.type_whole_words reach
+          g.met.B.ReadWords.width_positive g.met.B.FixedCapacity.type_whole_words reach
           c.zeros.ensures.value (c.even.ensures
           ∙ ap (λ b. even_summary (not b) g.S.Shape.type_capacity) c.ONES.ensures);
     }

@@ -10,4 +10,4 @@ returns g c = λ mirrored.
     ap (set_mirrored g.T.Shape mirrored) c.new_in.ensures
     ∙ c.difference.ensures mirrored
     ∙ ap (λ full. difference_of full s) (c.ones.ensures.in_each_order mirrored)
-    ∙ full_without g.T.Shape.type_capacity s (g.met.T.BitsOwned.one_capacity c.args.bits)
+    ∙ full_without g.T.Shape.type_capacity s (g.met.T.FixedCapacity.one_capacity c.args.bits)
