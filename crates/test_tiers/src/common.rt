@@ -3,7 +3,7 @@
 ghost use Rattle.std.specs.Prelude.{IsTrue};
 ghost use Rattle.bittle.specs.Values.{ShapeFits};
 
-use crate::checks::compare;
+use crate::checks::same;
 use crate::flags::draw;
 use bittle::walk::Iter;
 use bittle::{Bits, BitsMut, BitsOwned, Endian, Shape};
@@ -98,7 +98,7 @@ fn ask_steps<B: Bits, E: Endian, K: Kind>(
         if draw(state) % 2 == 0 {
             let expected = if low < high { members.at(low) } else { None };
             low = low.saturating_add(1).min(high);
-            compare(rt, "next", walk.next(), expected);
+            same!(*rt; walk.next(), expected);
         } else {
             let expected = if low < high {
                 members.at(high.saturating_sub(1))
@@ -106,7 +106,7 @@ fn ask_steps<B: Bits, E: Endian, K: Kind>(
                 None
             };
             high = high.saturating_sub(1).max(low);
-            compare(rt, "next_back", walk.next_back(), expected);
+            same!(*rt; walk.next_back(), expected);
         }
     }
 }
@@ -116,7 +116,7 @@ fn ask_members<B: Bits>(rt: &impl Abort, state: &mut u32, set: &B, members: &Com
     requires { ShapeFits B.Shape set.now }
 {
     ask_steps(rt, state, set.iter_ones(), members);
-    compare(rt, "count", set.iter_ones().count(), members.many as usize);
+    same!(*rt; set.iter_ones().count(), members.many as usize);
 }
 
 // Tests that the common members of two sets are the numbers of the list.
@@ -249,5 +249,5 @@ fn count_map_with_full<B: BitsOwned, S: BitsOwned>(map: B) -> [usize; 2]
 #[test]
 fn of_full_sets(rt: HostRuntime) {
     let counts = count_map_with_full::<[u64; 5], u64>([0, 2, 0, 0, 1]);
-    compare(&rt, "count", counts, [320, 2]);
+    same!(rt; counts, [320, 2]);
 }

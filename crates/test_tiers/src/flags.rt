@@ -4,7 +4,7 @@
 ghost use Rattle.bittle.specs.Values.{ShapeFits};
 
 use crate::calls::searches;
-use crate::checks::compare;
+use crate::checks::same;
 use bittle::walk::Iter;
 use bittle::{Bits, Endian};
 use bittle_tiers::Kind;
@@ -65,7 +65,7 @@ pub(crate) fn ask_searches<B: Bits, E: Endian>(
         first_of(flags, from, to, false),
         last_of(flags, from, to, false),
     ];
-    compare(rt, "searches", searches::<B, E>(set, from, to), expected);
+    same!(*rt; searches::<B, E>(set, from, to), expected);
 }
 
 // Tests the calls on all bits of a set, and `test_bit_in` at a random index, which may wrap.
@@ -77,16 +77,11 @@ pub(crate) fn ask_whole<B: Bits, E: Endian>(
 )
     requires { ShapeFits B.Shape set.now }
 {
-    compare(rt, "count", set.count_ones(), count(flags));
-    compare(rt, "all zeros", set.all_zeros(), count(flags) == 0);
-    compare(rt, "all ones", set.all_ones(), count(flags) == 24);
+    same!(*rt; set.count_ones(), count(flags));
+    same!(*rt; set.all_zeros(), count(flags) == 0);
+    same!(*rt; set.all_ones(), count(flags) == 24);
     let index = draw(state) % 50;
-    compare(
-        rt,
-        "test",
-        set.test_bit_in::<E>(index),
-        flags[(index % 24) as usize],
-    );
+    same!(*rt; set.test_bit_in::<E>(index), flags[(index % 24) as usize]);
 }
 
 // Steps an iterator until no item is left, each time at random from the front or from the back.
@@ -102,11 +97,11 @@ pub(crate) fn ask_steps<B: Bits, E: Endian, K: Kind>(
         if draw(state) % 2 == 0 {
             let expected = first_of(flags, low, high, K::ONES);
             low = expected.map_or(high, |item| item.saturating_add(1));
-            compare(rt, "next", walk.next(), expected);
+            same!(*rt; walk.next(), expected);
         } else {
             let expected = last_of(flags, low, high, K::ONES);
             high = expected.unwrap_or(low);
-            compare(rt, "next_back", walk.next_back(), expected);
+            same!(*rt; walk.next_back(), expected);
         }
     }
 }
