@@ -7,8 +7,8 @@ ghost use Rattle.bittle.specs.Orders.{read_in};
 ghost use Rattle.bittle.specs.Values.{set_in, ShapeFits};
 
 use crate::range_iterators::iter_within;
-use bittle::{Bits, Endian};
-use bittle_bits::extension::{Ones, Word, are_alike, set_bit};
+use bittle::Endian;
+use bittle_bits::extension::{Ones, ReadWords, Word, are_alike, set_bit};
 
 /// A marker that says whether every word that is read from a set is known to exist. If so, a loop
 /// over the words makes no test for the end of the set.
@@ -39,7 +39,7 @@ impl Reach for Part {
 
 /// Returns word `k` of a set, or an empty word if the set has no word `k`.
 #[inline(always)]
-pub fn word_or_empty<S: Bits, R: Reach>(set: &S, k: usize) -> S::LeafWord
+pub fn word_or_empty<S: ReadWords, R: Reach>(set: &S, k: usize) -> S::LeafWord
     requires fits { ShapeFits S.Shape set.now }
     requires reach { R.ALL ≡ true → k * S.width < (S.big set.now).capacity }
     ensures { bit_set S.width (S.LeafWord.pattern result) ≡ word_of S.width (S.big set.now) k }
@@ -47,7 +47,7 @@ pub fn word_or_empty<S: Bits, R: Reach>(set: &S, k: usize) -> S::LeafWord
     if R::ALL {
         return set.nth_leaf_word(k);
     }
-    if k < (set.bits_capacity() / <S::LeafWord as Word>::width()) as usize {
+    if k < (set.capacity() / <S::LeafWord as Word>::width()) as usize {
         set.nth_leaf_word(k)
     } else {
         <S::LeafWord as Word>::zero()
@@ -56,14 +56,14 @@ pub fn word_or_empty<S: Bits, R: Reach>(set: &S, k: usize) -> S::LeafWord
 
 /// Gathers word `k` of a set, one set bit after another. The set is read in the order `F`. The
 /// result is a word of the type `W` in the order `E`, and `k` counts words of the type `W`.
-fn gathered_word<W: Word, B: Bits, E: Endian, F: Endian>(set: &B, k: u32) -> W
+fn gathered_word<W: Word, B: ReadWords, E: Endian, F: Endian>(set: &B, k: u32) -> W
     requires fits { ShapeFits B.Shape set.now }
     requires within { k * W.width < 4294967296 }
     ensures { read_in E.mirrored W.width (bit_set W.width (W.pattern result))
         ≡ word_of W.width (set_in B.Shape F.Endian set.now) k }
 {
     let start = k * W::width();
-    let end = start.saturating_add(W::width()).min(set.bits_capacity());
+    let end = start.saturating_add(W::width()).min(set.capacity());
     let mut word = W::zero();
     for index in iter_within::<B, F, Ones>(set, start.min(end), end) {
         set_bit::<W, E>(&mut word, index - start);
@@ -75,7 +75,7 @@ fn gathered_word<W: Word, B: Bits, E: Endian, F: Endian>(set: &B, k: u32) -> W
 /// `A`'s words, in the order `E`, and `k` counts words of that width. Bits of the result at or past
 /// the capacity of the set are unset.
 #[inline(always)]
-pub fn other_word<A: Bits, B: Bits, E: Endian, F: Endian, R: Reach>(
+pub fn other_word<A: ReadWords, B: ReadWords, E: Endian, F: Endian, R: Reach>(
     set: &B,
     k: usize,
 ) -> A::LeafWord

@@ -6,8 +6,8 @@ ghost use Rattle.bittle.specs.Values.{kind_in, word_count, ShapeFits};
 ghost use Rattle.bittle.specs.Walk.{AreBelow, IsFresh};
 
 use crate::views::within::KindWithin;
-use bittle::{Bits, Endian};
-use bittle_bits::extension::{Kind, Ones, OwnedSource, Zeros};
+use bittle::Endian;
+use bittle_bits::extension::{Kind, Ones, OwnedSource, ReadWords, Zeros};
 use bittle_bits::walk::{IntoIter, IntoIterOnes};
 
 /// An iterator over the indexes of the set bits of a range.
@@ -19,7 +19,7 @@ pub type IterZerosInRange<'a, B, E> = IntoIterOnes<KindWithin<'a, B, E, Zeros>, 
 /// Returns an iterator over the indexes in `from..to` whose bits are of the kind `K` (set or
 /// unset). It iterates over the set bits of a view in which exactly these bits are set.
 #[inline]
-pub(crate) fn iter_within<'a, B: Bits, E: Endian, K: Kind>(
+pub(crate) fn iter_within<'a, B: ReadWords, E: Endian, K: Kind>(
     bits: &'a B,
     from: u32,
     to: u32,

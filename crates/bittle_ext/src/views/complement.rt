@@ -43,7 +43,7 @@ impl<'a, B: Shape> Clone for Complement<'a, B> {
 
 impl<'a, B: Shape> Copy for Complement<'a, B> {}
 
-impl<'a, B: Bits> ReadWords for Complement<'a, B> {
+impl<'a, B: ReadWords> ReadWords for Complement<'a, B> {
     ghost leaf_width = { B.leaf_width };
 
     ghost width_positive = { B.width_positive };
@@ -59,7 +59,7 @@ impl<'a, B: Bits> ReadWords for Complement<'a, B> {
 
     #[inline]
     fn capacity(&self) -> u32 {
-        self.set.bits_capacity()
+        self.set.capacity()
     }
 
     #[inline(always)]

@@ -185,7 +185,7 @@ impl<'a, A: Shape, B: Shape, E: Endian, F: Endian, O: Operation, R: Reach> Clone
 impl<'a, A: Shape, B: Shape, E: Endian, F: Endian, O: Operation, R: Reach> Copy
     for OfBoth<'a, A, B, E, F, O, R> {}
 
-impl<'a, A: Bits, B: Bits, E: Endian, F: Endian, O: ViewOperation, R: Reach> ReadWords
+impl<'a, A: ReadWords, B: ReadWords, E: Endian, F: Endian, O: ViewOperation, R: Reach> ReadWords
     for OfBoth<'a, A, B, E, F, O, R> {
     ghost leaf_width = { A.leaf_width };
 
@@ -279,13 +279,13 @@ impl<'a, A: Bits, B: Bits, E: Endian, F: Endian, O: ViewOperation, R: Reach> Rea
 // Returns a view that has the same words, but makes no test for the end of a set. Returns `None` if
 // one of the sets lacks a word of the view, or if the words of the sets differ in width or order.
 #[inline(always)]
-fn whole<'a, A: Bits, B: Bits, E: Endian, F: Endian, O: Operation, R: Reach>(
+fn whole<'a, A: ReadWords, B: ReadWords, E: Endian, F: Endian, O: Operation, R: Reach>(
     view: &OfBoth<'a, A, B, E, F, O, R>,
 ) -> Option<OfBoth<'a, A, B, E, F, O, Whole>>
     ensures { IfSome result (λ found. ⟦<OfBoth<'a, A, B, E, F, O, Whole> as Shape>⟧.big found
         ≡ ⟦<OfBoth<'a, A, B, E, F, O, R> as Shape>⟧.big view.now) }
 {
-    let shorter = view.left.bits_capacity().min(view.right.bits_capacity());
+    let shorter = view.left.capacity().min(view.right.capacity());
     if !are_alike::<A, B, E, F>() || shorter < view.end {
         return None;
     }
@@ -300,7 +300,7 @@ fn whole<'a, A: Bits, B: Bits, E: Endian, F: Endian, O: Operation, R: Reach>(
     })
 }
 
-impl<'a, A: Bits, B: Bits, U: Endian, F: Endian, O: ViewOperation, R: Reach> Bits
+impl<'a, A: ReadWords, B: ReadWords, U: Endian, F: Endian, O: ViewOperation, R: Reach> Bits
     for OfBoth<'a, A, B, U, F, O, R> {
     type Order = U;
 
@@ -328,7 +328,7 @@ impl<'a, A: Bits, B: Bits, U: Endian, F: Endian, O: ViewOperation, R: Reach> Bit
     }
 }
 
-impl<'a, A: Bits, B: Bits, E: Endian, F: Endian, O: Operation> OfBoth<'a, A, B, E, F, O> {
+impl<'a, A: ReadWords, B: ReadWords, E: Endian, F: Endian, O: Operation> OfBoth<'a, A, B, E, F, O> {
     /// Returns a view with the capacity `end`. The result of the operation must have no set bit
     /// from `end` on.
     #[inline]
@@ -358,7 +358,14 @@ impl<'a, A: Bits, B: Bits, E: Endian, F: Endian, O: Operation> OfBoth<'a, A, B, 
     }
 }
 
-impl<'a, A: Bits, B: Bits, E: Endian, F: Endian, O: FirstOperation> OfBoth<'a, A, B, E, F, O> {
+impl<'a, A: ReadWords, B: ReadWords, E: Endian, F: Endian, O: FirstOperation> OfBoth<
+    'a,
+    A,
+    B,
+    E,
+    F,
+    O,
+> {
     /// Returns a view of the result of an operation whose set bits are all set in `left` too. The
     /// view has the capacity of `left`.
     #[inline]
@@ -382,7 +389,14 @@ impl<'a, A: Bits, B: Bits, E: Endian, F: Endian, O: FirstOperation> OfBoth<'a, A
     }
 }
 
-impl<'a, A: Bits, B: Bits, E: Endian, F: Endian, O: EitherOperation> OfBoth<'a, A, B, E, F, O> {
+impl<'a, A: ReadWords, B: ReadWords, E: Endian, F: Endian, O: EitherOperation> OfBoth<
+    'a,
+    A,
+    B,
+    E,
+    F,
+    O,
+> {
     /// Returns a view of the result of an operation on two sets whose words have the same width.
     /// The view has the greater of the two capacities.
     #[inline]

@@ -60,7 +60,7 @@ impl<'a, B: Shape, E: Endian, K: Kind> Clone for KindWithin<'a, B, E, K> {
 
 impl<'a, B: Shape, E: Endian, K: Kind> Copy for KindWithin<'a, B, E, K> {}
 
-impl<'a, B: Bits, E: Endian, K: Kind> ReadWords for KindWithin<'a, B, E, K> {
+impl<'a, B: ReadWords, E: Endian, K: Kind> ReadWords for KindWithin<'a, B, E, K> {
     ghost leaf_width = { B.leaf_width };
 
     ghost width_positive = { B.width_positive };
@@ -77,7 +77,7 @@ impl<'a, B: Bits, E: Endian, K: Kind> ReadWords for KindWithin<'a, B, E, K> {
 
     #[inline]
     fn capacity(&self) -> u32 {
-        self.set.bits_capacity()
+        self.set.capacity()
     }
 
     // A word with no set bit needs no mask, nor does a word that lies wholly in the range.
@@ -118,7 +118,7 @@ impl<'a, B: Bits, E: Endian, K: Kind> ReadWords for KindWithin<'a, B, E, K> {
     }
 }
 
-impl<'a, B: Bits, U: Endian> Bits for Within<'a, B, U> {
+impl<'a, B: ReadWords, U: Endian> Bits for Within<'a, B, U> {
     type Order = U;
 
     #[inline]
@@ -142,7 +142,7 @@ impl<'a, B: Bits, U: Endian> Bits for Within<'a, B, U> {
     }
 }
 
-impl<'a, B: Bits, E: Endian, K: Kind> KindWithin<'a, B, E, K> {
+impl<'a, B: ReadWords, E: Endian, K: Kind> KindWithin<'a, B, E, K> {
     /// Returns a view of the bits of the kind `K` in a range of a set.
     #[inline]
     pub(crate) fn of(set: &'a B, from: u32, to: u32) -> KindWithin<'a, B, E, K>

@@ -8,7 +8,7 @@ returns-clause-ends g c =
     let b = g.met.B.ReadWords in
     let set = c.args.set.now in
     record {
-      capacity = c.bits_capacity.ensures.value c.requires;
+      capacity = c.capacity.ensures.value c.requires;
       past = members-past g.E.Endian.mirrored _ _ b.width_positive (b.whole_words set)
           (b.none_past set);
     }

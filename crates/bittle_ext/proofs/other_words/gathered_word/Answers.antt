@@ -53,6 +53,6 @@ returns g c =
       c.min-end.ensures,
       c.saturating_add.ensures,
       c.width-2.ensures,
-      c.bits_capacity.ensures.value c.requires.fits,
+      c.capacity.ensures.value c.requires.fits,
       c.requires.fits.1,
     )) past
