@@ -10,7 +10,7 @@ ghost use Rattle.bittle.specs.Values.{set_in, set_mirrored, ShapeFits};
 ghost use Rattle.bittle_ext.specs.Changes.{those_passing};
 
 use bittle::{Bits, BitsMut, BitsOwned, Endian};
-use bittle_ext::{BitsMutExt, BitsMutViewExt, BitsOwnedExt};
+use bittle_ext::{BitsIndexMutExt, BitsMutExt, BitsMutViewExt, BitsOwnedExt};
 
 /// Clears the bits of a range.
 pub fn clear<B: BitsMut, E: Endian>(set: &mut B, from: u32, to: u32)
@@ -22,6 +22,20 @@ pub fn clear<B: BitsMut, E: Endian>(set: &mut B, from: u32, to: u32)
     ensures stays { B.loan set.old ≡ B.loan set.new }
 {
     set.in_order_mut::<E>().assign_range(from, to, false);
+}
+
+/// Sets the bit at each of the indexes, and returns how many of them are past the last bit. The
+/// invariant of the loop says that the set still fits.
+pub fn add_each<B: BitsMut>(set: &mut B, indexes: &[u32]) -> usize
+    requires { ShapeFits B.Shape set.old }
+{
+    let mut out = 0usize;
+    for index in indexes.iter() {
+        if !set.try_set_bit(*index) {
+            out = out.saturating_add(1);
+        }
+    }
+    out
 }
 
 /// Flips each bit, and returns how many bits are set after that.

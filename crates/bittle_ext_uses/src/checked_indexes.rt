@@ -6,7 +6,7 @@ ghost use Rattle.bittle.specs.BitPatterns.{bit_set};
 ghost use Rattle.bittle.specs.PlainSet.{with_index};
 ghost use Rattle.bittle.specs.Values.{set_in, ShapeFits};
 
-use bittle::{Bits, BitsMut, LittleEndian};
+use bittle::{Bits, BitsMut, LittleEndian, Set};
 use bittle_ext::{BitsIndexExt, BitsIndexMutExt, BitsMutViewExt};
 
 /// The error for an edge that leads out of the graph.
@@ -32,6 +32,22 @@ pub fn visit_ends(seen: &mut [u8; 5], ends: &[u32]) -> usize {
             .try_insert(*end)
             .is_none()
         {
+            out = out.saturating_add(1);
+        }
+    }
+    out
+}
+
+/// Visits the ends of edges in a graph whose number of nodes is known only at run time. Returns how
+/// many of the ends are no node. Before the loop the words are put into a `Set`, since the checker
+/// does not know in a loop that a slice keeps its length.
+pub fn visit_ends_in(seen: &mut [u64], ends: &[u32]) -> usize
+    requires { length seen.old * 64 < 4294967295 }
+{
+    let mut seen = Set::from_mut(seen);
+    let mut out = 0usize;
+    for end in ends.iter() {
+        if seen.try_insert(*end).is_none() {
             out = out.saturating_add(1);
         }
     }

@@ -2,7 +2,9 @@
 
 use crate::checks::{holds, same};
 use bittle::Bits;
+use bittle_ext_uses::any_changes::add_each;
 use bittle_ext_uses::blocks::Blocks;
+use bittle_ext_uses::checked_indexes::visit_ends_in;
 use bittle_ext_uses::equal_sets::copied;
 use bittle_ext_uses::field::Field;
 use bittle_ext_uses::filled::fill;
@@ -35,6 +37,17 @@ fn nodes_that_edges_lead_to(rt: HostRuntime) {
     same!(rt; (reachable(&rows, 5), reachable(&rows, 1)), (0b0010_0010, 0b0010));
     same!(rt; (reachable(&rows, 64), reachable(&rows, u32::MAX)), (0, 0));
     same!(rt; (targets(&rows, 0b0010_0001), targets(&rows, 0)), (1 << 63 | 0b0010, 0));
+}
+
+#[test]
+fn nodes_that_a_graph_does_not_have(rt: HostRuntime) {
+    // The graph has 128 nodes, so 128 and `u32::MAX` are no nodes. Node 64 was seen before.
+    let mut seen = [0u64, 1];
+    same!(rt; visit_ends_in(&mut seen, &[0, 64, 127, 128, u32::MAX]), 2);
+    same!(rt; seen, [1, 1 << 63 | 1]);
+    let mut byte = 0b0001u8;
+    same!(rt; add_each(&mut byte, &[7, 8, 0, 65]), 2);
+    same!(rt; byte, 0b1000_0001);
 }
 
 #[test]
