@@ -85,6 +85,21 @@ pub fn zero_run(words: &[u64], length: u32) -> Option<usize> {
     None
 }
 
+/// Returns where the first run of `length` unset bits begins, for a length of more than 64. Such a
+/// run begins right after the last set bit of a word, or at index 0.
+pub fn long_zero_run(words: &[u64], length: usize) -> Option<usize> {
+    let mut start = 0;
+    for (at, word) in words.iter().enumerate() {
+        if at * 64 + word.trailing_zeros() as usize >= start + length {
+            return Some(start);
+        }
+        if *word != 0 {
+            start = at * 64 + 64 - word.leading_zeros() as usize;
+        }
+    }
+    None
+}
+
 /// Moves each set bit 13 places down.
 pub fn down(words: &mut [u64]) {
     for at in 0..words.len() {
