@@ -17,7 +17,8 @@ pub struct Call {
 }
 
 /// The sets of the other side, as fixedbitset has them and as words. Index 0 is the rightmost bit
-/// of the first word.
+/// of the first word. In `words` and `others`, which the loops by hand read, it is the leftmost bit
+/// of the first word if the order is little-endian.
 pub struct Sides {
     f: FixedBitSet,
     g: FixedBitSet,
@@ -25,14 +26,51 @@ pub struct Sides {
     others: Vec<u64>,
 }
 
+// In these loops by hand `L` says whether the order is little-endian.
+
+/// Returns the least index of a set bit, or 64.
+fn first<const L: bool>(word: u64) -> u32 {
+    if L { word.leading_zeros() } else { word.trailing_zeros() }
+}
+
+/// Returns how many bits after the greatest index of a set bit are unset, or 64.
+fn after<const L: bool>(word: u64) -> u32 {
+    if L { word.trailing_zeros() } else { word.leading_zeros() }
+}
+
+/// Moves each set bit to an index that is `by` less.
+fn down<const L: bool>(word: u64, by: usize) -> u64 {
+    if L { word << by } else { word >> by }
+}
+
+/// Moves each set bit to an index that is `by` greater.
+fn up<const L: bool>(word: u64, by: usize) -> u64 {
+    if L { word >> by } else { word << by }
+}
+
+/// Clears the bit `index`, which is the least one that is set.
+fn without_first<const L: bool>(word: u64, index: u32) -> u64 {
+    if L { word ^ 1 << 63 >> index } else { word & (word - 1) }
+}
+
+/// Returns the word whose bit at each index has the weight of the index, or undoes it.
+fn number<const L: bool>(word: u64) -> u64 {
+    if L { word.reverse_bits() } else { word }
+}
+
+/// Returns the word whose first `count` bits are set. The count is from 1 to 64.
+fn first_bits<const L: bool>(count: usize) -> u64 {
+    if L { u64::MAX << (64 - count) } else { u64::MAX >> (64 - count) }
+}
+
 /// Returns the least index from `from` on whose bit is set after each word is combined with `flip`
 /// by exclusive or.
-fn next(words: &[u64], from: usize, flip: u64) -> Option<usize> {
+fn next<const L: bool>(words: &[u64], from: usize, flip: u64) -> Option<usize> {
     let mut at = from / 64;
     if at >= words.len() {
         return None;
     }
-    let mut word = (words[at] ^ flip) & (u64::MAX << (from % 64));
+    let mut word = (words[at] ^ flip) & up::<L>(u64::MAX, from % 64);
     while word == 0 {
         at += 1;
         if at == words.len() {
@@ -40,26 +78,26 @@ fn next(words: &[u64], from: usize, flip: u64) -> Option<usize> {
         }
         word = words[at] ^ flip;
     }
-    Some(at * 64 + word.trailing_zeros() as usize)
+    Some(at * 64 + first::<L>(word) as usize)
 }
 
-pub fn next_one(words: &[u64], from: usize) -> Option<usize> {
-    next(words, from, 0)
+pub fn next_one<const L: bool>(words: &[u64], from: usize) -> Option<usize> {
+    next::<L>(words, from, 0)
 }
 
-pub fn next_zero(words: &[u64], from: usize) -> Option<usize> {
-    next(words, from, u64::MAX)
+pub fn next_zero<const L: bool>(words: &[u64], from: usize) -> Option<usize> {
+    next::<L>(words, from, u64::MAX)
 }
 
-pub fn select(words: &[u64], mut rank: usize) -> Option<usize> {
+pub fn select<const L: bool>(words: &[u64], mut rank: usize) -> Option<usize> {
     for (at, word) in words.iter().enumerate() {
         let count = word.count_ones() as usize;
         if rank < count {
             let mut word = *word;
             for _ in 0..rank {
-                word &= word - 1;
+                word = without_first::<L>(word, first::<L>(word));
             }
-            return Some(at * 64 + word.trailing_zeros() as usize);
+            return Some(at * 64 + first::<L>(word) as usize);
         }
         rank -= count;
     }
@@ -67,19 +105,21 @@ pub fn select(words: &[u64], mut rank: usize) -> Option<usize> {
 }
 
 /// Returns where the first run of `length` unset bits begins, for a length from 1 to 64.
-pub fn zero_run(words: &[u64], length: u32) -> Option<usize> {
+pub fn zero_run<const L: bool>(words: &[u64], length: u32) -> Option<usize> {
     for (at, word) in words.iter().enumerate() {
         // Bit i of `pair` says that the `covered` bits from bit i on are unset.
-        let after = words.get(at + 1).map_or(0, |word| !word);
-        let mut pair = u128::from(!word) | u128::from(after) << 64;
+        let next = words.get(at + 1).map_or(0, |word| !word);
+        let (low, high) = if L { (next, !word) } else { (!word, next) };
+        let mut pair = u128::from(low) | u128::from(high) << 64;
+        let word_of = |pair: u128| if L { (pair >> 64) as u64 } else { pair as u64 };
         let mut covered = 1;
-        while covered < length && pair as u64 != 0 {
+        while covered < length && word_of(pair) != 0 {
             let more = covered.min(length - covered);
-            pair &= pair >> more;
+            pair &= if L { pair << more } else { pair >> more };
             covered += more;
         }
-        if pair as u64 != 0 {
-            return Some(at * 64 + pair.trailing_zeros() as usize);
+        if word_of(pair) != 0 {
+            return Some(at * 64 + first::<L>(word_of(pair)) as usize);
         }
     }
     None
@@ -87,131 +127,159 @@ pub fn zero_run(words: &[u64], length: u32) -> Option<usize> {
 
 /// Returns where the first run of `length` unset bits begins, for a length of more than 64. Such a
 /// run begins right after the last set bit of a word, or at index 0.
-pub fn long_zero_run(words: &[u64], length: usize) -> Option<usize> {
+pub fn long_zero_run<const L: bool>(words: &[u64], length: usize) -> Option<usize> {
     let mut start = 0;
     for (at, word) in words.iter().enumerate() {
-        if at * 64 + word.trailing_zeros() as usize >= start + length {
+        if at * 64 + first::<L>(*word) as usize >= start + length {
             return Some(start);
         }
         if *word != 0 {
-            start = at * 64 + 64 - word.leading_zeros() as usize;
+            start = at * 64 + 64 - after::<L>(*word) as usize;
         }
     }
     None
 }
 
 /// Moves each set bit 13 places down.
-pub fn down(words: &mut [u64]) {
+pub fn shift_down<const L: bool>(words: &mut [u64]) {
     for at in 0..words.len() {
-        let after = words.get(at + 1).map_or(0, |word| word << 51);
-        words[at] = words[at] >> 13 | after;
+        let next = words.get(at + 1).map_or(0, |word| up::<L>(*word, 51));
+        words[at] = down::<L>(words[at], 13) | next;
     }
 }
 
 /// Moves each set bit 13 places up.
-pub fn up(words: &mut [u64]) {
+pub fn shift_up<const L: bool>(words: &mut [u64]) {
     for at in (0..words.len()).rev() {
-        let before = if at == 0 { 0 } else { words[at - 1] >> 51 };
-        words[at] = words[at] << 13 | before;
+        let before = if at == 0 { 0 } else { down::<L>(words[at - 1], 51) };
+        words[at] = up::<L>(words[at], 13) | before;
     }
 }
 
 /// Moves each set bit down by `by` places. Those that pass index 0 go on from the last index.
-pub fn turn(words: &mut [u64], by: usize) {
+pub fn turn<const L: bool>(words: &mut [u64], by: usize) {
     let by = by % (words.len() * 64);
     words.rotate_left(by / 64);
     if by % 64 > 0 {
-        let (down, up) = (by % 64, 64 - by % 64);
-        let mut first = words[0];
+        let mut next = words[0];
         for word in words.iter_mut().rev() {
-            let moved = *word >> down | first << up;
-            first = *word;
+            let moved = down::<L>(*word, by % 64) | up::<L>(next, 64 - by % 64);
+            next = *word;
             *word = moved;
         }
     }
 }
 
-/// Returns the number in `count` bits from an index on. The count is from 1 to 64.
-pub fn load(words: &[u64], from: usize, count: usize) -> u64 {
+/// Returns a word whose first `count` bits are the bits from an index on, and whose other bits are
+/// unset. The count is from 1 to 64.
+fn bits<const L: bool>(words: &[u64], from: usize, count: usize) -> u64 {
     let (at, place) = (from / 64, from % 64);
-    let low = words.get(at).map_or(0, |word| word >> place);
-    let after = if place + count > 64 { words.get(at + 1) } else { None };
-    (low | after.map_or(0, |word| word << (64 - place))) & (u64::MAX >> (64 - count))
+    let low = words.get(at).map_or(0, |word| down::<L>(*word, place));
+    let next = if place + count > 64 { words.get(at + 1) } else { None };
+    let next = next.map_or(0, |word| up::<L>(*word, 64 - place));
+    (low | next) & first_bits::<L>(count)
+}
+
+/// Writes the first `count` bits of a word, whose others are unset, to the indexes from `from` on.
+/// The count is from 1 to 64.
+fn put_bits<const L: bool>(words: &mut [u64], from: usize, count: usize, bits: u64) {
+    let (at, place, mask) = (from / 64, from % 64, first_bits::<L>(count));
+    words[at] = words[at] & !up::<L>(mask, place) | up::<L>(bits, place);
+    if place + count > 64 {
+        let done = 64 - place;
+        words[at + 1] = words[at + 1] & !down::<L>(mask, done) | down::<L>(bits, done);
+    }
+}
+
+/// Returns the number in `count` bits from an index on. The count is from 1 to 64.
+pub fn load<const L: bool>(words: &[u64], from: usize, count: usize) -> u64 {
+    number::<L>(bits::<L>(words, from, count))
 }
 
 /// Writes the `count` lowest bits of a number at the indexes from `from` on. The count is at most
 /// 64.
-pub fn store(words: &mut [u64], from: usize, count: usize, value: u64) {
-    if count == 0 {
-        return;
-    }
-    let (at, place, mask) = (from / 64, from % 64, u64::MAX >> (64 - count));
-    words[at] = words[at] & !(mask << place) | (value & mask) << place;
-    if place + count > 64 {
-        let done = 64 - place;
-        words[at + 1] = words[at + 1] & !(mask >> done) | (value & mask) >> done;
+pub fn store<const L: bool>(words: &mut [u64], from: usize, count: usize, value: u64) {
+    if count > 0 {
+        let bits = number::<L>(value) & first_bits::<L>(count);
+        put_bits::<L>(words, from, count, bits);
     }
 }
 
 /// Copies a range of other words to the indexes from 0 on.
-pub fn copy_range(words: &mut [u64], others: &[u64], range: Range<usize>) {
+pub fn copy_range<const L: bool>(words: &mut [u64], others: &[u64], range: Range<usize>) {
     for (at, from) in range.clone().step_by(64).enumerate() {
         let count = (range.end - from).min(64);
-        store(words, at * 64, count, load(others, from, count));
+        put_bits::<L>(words, at * 64, count, bits::<L>(others, from, count));
     }
 }
 
 /// Copies a range to the indexes from 0 on.
-pub fn copy_within(words: &mut [u64], range: Range<usize>) {
+pub fn copy_within<const L: bool>(words: &mut [u64], range: Range<usize>) {
     for (at, from) in range.clone().step_by(64).enumerate() {
         let count = (range.end - from).min(64);
-        store(words, at * 64, count, load(words, from, count));
+        put_bits::<L>(words, at * 64, count, bits::<L>(words, from, count));
     }
 }
 
 /// Returns the sum of the indexes of the set bits in a range.
-pub fn sum_in(words: &[u64], range: Range<usize>) -> u64 {
+pub fn sum_in<const L: bool>(words: &[u64], range: Range<usize>) -> u64 {
     let mut sum = 0u64;
     if range.is_empty() {
         return sum;
     }
-    let (first, last) = (range.start / 64, (range.end - 1) / 64);
-    for (at, word) in words.iter().enumerate().take(last + 1).skip(first) {
+    let (begin, end) = (range.start / 64, (range.end - 1) / 64);
+    for (at, word) in words.iter().enumerate().take(end + 1).skip(begin) {
         let mut word = *word;
-        if at == first {
-            word &= u64::MAX << (range.start % 64);
+        if at == begin {
+            word &= up::<L>(u64::MAX, range.start % 64);
         }
-        if at == last {
-            word &= u64::MAX >> (63 - (range.end - 1) % 64);
+        if at == end {
+            word &= first_bits::<L>((range.end - 1) % 64 + 1);
         }
         while word != 0 {
-            sum = sum.wrapping_add(at as u64 * 64 + u64::from(word.trailing_zeros()));
-            word &= word - 1;
+            let index = first::<L>(word);
+            sum = sum.wrapping_add(at as u64 * 64 + u64::from(index));
+            word = without_first::<L>(word, index);
         }
     }
     sum
 }
 
-/// Returns a number that depends on where each run of set bits ends.
-pub fn run_ends(words: &[u64]) -> u64 {
-    let (mut sum, mut from) = (0u64, 0);
-    while let Some(start) = next(words, from, 0) {
-        let end = next(words, start, u64::MAX).unwrap_or(words.len() * 64);
-        sum = sum.wrapping_mul(3).wrapping_add(start as u64).wrapping_add(end as u64);
-        from = end;
+/// Returns a number that depends on where each run of set bits begins and ends. A bit that differs
+/// from the bit before it begins a run or ends one.
+pub fn run_ends<const L: bool>(words: &[u64]) -> u64 {
+    let add = |sum: u64, start: u64, end: u64| {
+        sum.wrapping_mul(3).wrapping_add(start).wrapping_add(end)
+    };
+    let (mut sum, mut start, mut before) = (0, None, 0);
+    for (at, word) in words.iter().enumerate() {
+        let mut edges = *word ^ (up::<L>(*word, 1) | before);
+        before = down::<L>(*word, 63);
+        while edges != 0 {
+            let index = first::<L>(edges);
+            edges = without_first::<L>(edges, index);
+            let index = at as u64 * 64 + u64::from(index);
+            start = match start {
+                None => Some(index),
+                Some(start) => {
+                    sum = add(sum, start, index);
+                    None
+                }
+            };
+        }
     }
-    sum
+    start.map_or(sum, |start| add(sum, start, words.len() as u64 * 64))
 }
 
 /// Clears the set bits whose index is odd, one by one.
-pub fn keep_even(words: &mut [u64]) {
+pub fn keep_even<const L: bool>(words: &mut [u64]) {
     for word in words {
         let mut rest = *word;
         while rest != 0 {
-            let place = rest.trailing_zeros();
-            rest &= rest - 1;
-            if place % 2 == 1 {
-                *word &= !(1 << place);
+            let index = first::<L>(rest);
+            rest = without_first::<L>(rest, index);
+            if index % 2 == 1 {
+                *word &= !up::<L>(if L { 1 << 63 } else { 1 }, index as usize);
             }
         }
     }
@@ -287,8 +355,8 @@ impl<'a> Cell<'a> {
             sides: Sides {
                 f: fixed(&left),
                 g: fixed(&right),
-                words: left.clone(),
-                others: right.clone(),
+                words: in_order(&left, call.is_little),
+                others: in_order(&right, call.is_little),
             },
             left: in_order(&left, call.is_little),
             right: in_order(&right, call.is_little),
@@ -320,11 +388,10 @@ impl<'a> Cell<'a> {
     /// Makes the calls once on both sides, and stops the program where they differ.
     fn compare(&mut self) {
         assert_eq!(self.ours(), self.theirs(), "{} returns another value", self.call.name);
-        let left = in_order(&self.left, self.call.is_little);
         let is_same = if self.call.name.ends_with('*') {
-            left == self.sides.words
+            self.left == self.sides.words
         } else {
-            fixed(&left) == self.sides.f
+            fixed(&in_order(&self.left, self.call.is_little)) == self.sides.f
         };
         assert!(is_same, "{} leaves another set", self.call.name);
     }
