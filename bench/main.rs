@@ -53,7 +53,8 @@ fn without_first<const L: bool>(word: u64, index: u32) -> u64 {
     if L { word ^ 1 << 63 >> index } else { word & (word - 1) }
 }
 
-/// Returns the word whose bit at each index has the weight of the index, or undoes it.
+/// Returns the number whose bit of weight `2 ^ i` is the bit at index `i` of a word, or the word of
+/// such a number.
 fn number<const L: bool>(word: u64) -> u64 {
     if L { word.reverse_bits() } else { word }
 }
