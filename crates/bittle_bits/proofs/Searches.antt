@@ -243,3 +243,43 @@ module _ (ones m : Bool) (w : ℕ) (big : PlainSet) (word : 0 < w)
     | inl l ↦ last n (omega (arith, at.from)) l
     | inr g ↦ none_up_to false k d r h greatest n (omega (arith, end)) hi
   ]
+
+-- The words p to q as a range: from place o of word p on, if they are searched from the front, and
+-- up to place o of word q, if they are searched from the back.
+abbrev pub words_from : Bool → ℕ → ℕ → ℕ → ℕ
+words_from front w p o = cond front (p * w + o) (p * w)
+
+abbrev pub words_to : Bool → ℕ → ℕ → ℕ → ℕ
+words_to front w q o = cond front (q * w + w) (q * w + o + 1)
+
+-- where this range lies
+pub words_lie : (front : Bool) (w p q o : ℕ) → o < w → p ≤ q → LiesAt w (words_from front w p o)
+    (words_to front w q o) p (cond front o 0) q (cond front (w - 1) o)
+words_lie true w p q o place order = record {
+  from = refl;
+  begin = place;
+  to = omega (arith, place);
+  top = omega (arith, place);
+  in_order = order;
+  before_last = λ k h. omega (arith, mul-le-mul_right w h);
+}
+words_lie false w p q o place order = record {
+  from = omega arith;
+  begin = omega (arith, place);
+  to = refl;
+  top = place;
+  in_order = order;
+  before_last = λ k h. omega (arith, mul-le-mul_right w h);
+}
+
+-- the place at which the words begin, seen from the end
+pub words_begin : (front : Bool) (w o : ℕ) → o ≡ cond front (cond front o 0) (cond front (w - 1) o)
+words_begin true w o = refl
+words_begin false w o = refl
+
+-- each place of one of the words is within the end at which the words end
+pub words_within : (front : Bool) (w p q o k r : ℕ) → p ≤ k → k ≤ q → r < w →
+    let i = k * w + cond front r (w - 1 - r) in
+    cond front i (words_from front w p o) ≤ cond front (words_to front w q o - 1) i
+words_within true w p q o k r first last place = omega (arith, mul-le-mul_right w last, place)
+words_within false w p q o k r first last place = omega (arith, mul-le-mul_right w first)

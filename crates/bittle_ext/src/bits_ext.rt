@@ -12,7 +12,7 @@ use crate::capacities::capacity_of;
 use crate::runs;
 use crate::select::{place_of_rank, word_of_rank};
 use bittle::Bits;
-use bittle_bits::extension::{Ones, Word, Zeros};
+use bittle_bits::extension::{Ones, Word, Zeros, first_from};
 
 /// Questions about any set, beyond the calls of [`Bits`].
 ///
@@ -34,7 +34,7 @@ pub trait BitsExt: Bits + Sized {
         ensures { let ours = set_in Self.Shape Self.Order.Endian self.now in
             IsFirstIn ours 0 ours.capacity result }
     {
-        self.first_one_in::<Self::Order>(0, self.bits_capacity())
+        first_from::<Self, Self::Order, Ones>(self, 0)
     }
 
     /// Returns the least index of an unset bit, or `None` if no bit is unset. Indexes follow the
@@ -49,7 +49,7 @@ pub trait BitsExt: Bits + Sized {
         ensures { let ours = set_in Self.Shape Self.Order.Endian self.now in
             IsFirstIn (complement ours) 0 ours.capacity result }
     {
-        self.first_zero_in::<Self::Order>(0, self.bits_capacity())
+        first_from::<Self, Self::Order, Zeros>(self, 0)
     }
 
     /// Returns the greatest index of a set bit, or `None` if no bit is set. Indexes follow the bit
@@ -95,8 +95,7 @@ pub trait BitsExt: Bits + Sized {
         ensures { let ours = set_in Self.Shape Self.Order.Endian self.now in
             IsFirstIn ours from ours.capacity result }
     {
-        let capacity = self.bits_capacity();
-        self.first_one_in::<Self::Order>(from.min(capacity), capacity)
+        first_from::<Self, Self::Order, Ones>(self, from)
     }
 
     /// Returns the least index at or above `from` whose bit is unset, or `None` if there is none.
@@ -112,8 +111,7 @@ pub trait BitsExt: Bits + Sized {
         ensures { let ours = set_in Self.Shape Self.Order.Endian self.now in
             IsFirstIn (complement ours) from ours.capacity result }
     {
-        let capacity = self.bits_capacity();
-        self.first_zero_in::<Self::Order>(from.min(capacity), capacity)
+        first_from::<Self, Self::Order, Zeros>(self, from)
     }
 
     /// Returns the greatest index below `to` whose bit is set, or `None` if there is none. A `to`

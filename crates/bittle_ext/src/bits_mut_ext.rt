@@ -20,7 +20,7 @@ use crate::inserted::insert_each;
 use crate::one_bit;
 use crate::retained::retain;
 use bittle::{BigEndian, BitsMut};
-use bittle_bits::extension::{Difference, SymmetricDifference, Union};
+use bittle_bits::extension::{Difference, Ones, SymmetricDifference, Union, Zeros, first_from};
 
 /// Everyday changes of any set that can be changed. No change alters the capacity. A shape or type
 /// fits if its capacity, and that of each array type within it, is below `u32::MAX`. The bit order
@@ -229,7 +229,7 @@ pub trait BitsMutExt: BitsMut + Sized {
             ≡ size (set_in Self.Shape Self.Order.Endian self.old)) }
         ensures stays { Self.loan self.old ≡ Self.loan self.new }
     {
-        let first = self.first_one_in::<Self::Order>(0, self.bits_capacity())?;
+        let first = first_from::<Self, Self::Order, Ones>(&*self, 0)?;
         self.clear_bit_in::<Self::Order>(first);
         Some(first)
     }
@@ -284,7 +284,7 @@ pub trait BitsMutExt: BitsMut + Sized {
             ≡ with_index (set_in Self.Shape Self.Order.Endian self.old) index) }
         ensures stays { Self.loan self.old ≡ Self.loan self.new }
     {
-        let free = self.first_zero_in::<Self::Order>(0, self.bits_capacity())?;
+        let free = first_from::<Self, Self::Order, Zeros>(&*self, 0)?;
         self.set_bit_in::<Self::Order>(free);
         Some(free)
     }

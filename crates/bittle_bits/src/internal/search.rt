@@ -1,13 +1,13 @@
 //! Searches a range, word by word, for the first or the last bit of a kind: a set bit or an unset
 //! bit.
 
-ghost use Rattle.std.specs.Prelude.{◌≡◌, ◌+◌, ◌*◌, ◌<◌, ◌≤◌, Bool, ℕ};
+ghost use Rattle.std.specs.Prelude.{◌≡◌, ◌+◌, ◌*◌, ◌<◌, ◌≤◌, cond, Bool, ℕ};
 ghost use Rattle.bittle_bits.specs.Ends.{is_ahead, IsEndIn};
-ghost use Rattle.bittle_bits.specs.Searches.{IsNextWord};
+ghost use Rattle.bittle_bits.specs.Searches.{IsFirstIn, IsNextWord};
 ghost use Rattle.bittle_bits.specs.Values.{kind_in, set_mirrored, word_in, ShapeFits};
 ghost use Rattle.bittle_bits.specs.Walk.{ones_or_zeros};
 
-use crate::end::{End, at_end};
+use crate::end::{End, Front, at_end};
 use crate::endian::Endian;
 use crate::internal::ends::ends;
 use crate::internal::source::{pass_over, word_of_kind};
@@ -64,6 +64,43 @@ fn next_word<B: ReadWords, K: Kind, N: End>(bits: &B, first: u32, last: u32, k: 
     }
 }
 
+// Searches the words from `first` to `last` for a bit of the kind `K`. If `N` is the front, it
+// returns the least index of such a bit from the place `at` of word `first` on. If `N` is the back,
+// it returns the greatest one up to the place `at` of word `last`. No index is compared with the
+// far end of the range, since this is the end of a word.
+#[inline]
+fn end_in_words<B: ReadWords, E: Endian, K: Kind, N: End>(
+    bits: &B,
+    first: u32,
+    last: u32,
+    at: u32,
+) -> Option<u32>
+    requires fits { ShapeFits B.Shape bits.now }
+    requires ordered { first ≤ last }
+    requires within { last * B.width < (B.big bits.now).capacity }
+    requires place { at < B.width }
+    ensures { IsEndIn N.FRONT (kind_in B.Shape E.Endian K.Kind bits.now)
+        (cond N.FRONT (first * B.width + at) (first * B.width))
+        (cond N.FRONT (last * B.width + B.width) (last * B.width + at + 1)) result }
+{
+    let width = word_width::<B>();
+    let mask = ahead::<B::LeafWord, E, N>(at);
+    let mut k = at_end::<N>(first, last);
+    let mut word = word_of_kind::<B, K>(bits, k as usize).and(mask);
+    loop {
+        let away = from_end::<B::LeafWord, E, N>(word);
+        if away != width {
+            let found = k * width + at_end::<N>(away, width - 1 - away);
+            return Some(found);
+        }
+        let Some(next) = next_word::<B, K, N>(bits, first, last, k) else {
+            return None;
+        };
+        k = next;
+        word = word_of_kind::<B, K>(bits, k as usize);
+    }
+}
+
 /// Returns an index in `from..to` whose bit is of the kind `K`: the least such index if `N` is the
 /// front, the greatest if `N` is the back, and `None` if there is no such index.
 #[inline]
@@ -77,25 +114,27 @@ pub fn end_in<B: ReadWords, E: Endian, K: Kind, N: End>(bits: &B, from: u32, to:
     if from == to {
         return None;
     }
-    let width = word_width::<B>();
-    let (first, begin, last, top) = ends(width, from, to);
-    let mask = ahead::<B::LeafWord, E, N>(at_end::<N>(begin, top));
-    let mut k = at_end::<N>(first, last);
-    let mut word = word_of_kind::<B, K>(bits, k as usize).and(mask);
-    loop {
-        let away = from_end::<B::LeafWord, E, N>(word);
-        if away != width {
-            let found = k * width + at_end::<N>(away, width - 1 - away);
-            return if at_end::<N>(found, from) <= at_end::<N>(to - 1, found) {
-                Some(found)
-            } else {
-                None
-            };
-        }
-        let Some(next) = next_word::<B, K, N>(bits, first, last, k) else {
-            return None;
-        };
-        k = next;
-        word = word_of_kind::<B, K>(bits, k as usize);
+    let (first, begin, last, top) = ends(word_width::<B>(), from, to);
+    let found = end_in_words::<B, E, K, N>(bits, first, last, at_end::<N>(begin, top))?;
+    if at_end::<N>(found, from) <= at_end::<N>(to - 1, found) {
+        Some(found)
+    } else {
+        None
     }
+}
+
+/// Returns the least index from `from` on whose bit is of the kind `K`, or `None` if there is no
+/// such index.
+#[inline]
+pub fn first_from<B: ReadWords, E: Endian, K: Kind>(bits: &B, from: u32) -> Option<u32>
+    requires { ShapeFits B.Shape bits.now }
+    ensures { IsFirstIn (kind_in B.Shape E.Endian K.Kind bits.now) from
+        (B.big bits.now).capacity result }
+{
+    let capacity = bits.capacity();
+    if capacity <= from {
+        return None;
+    }
+    let (first, begin, last, _) = ends(word_width::<B>(), from, capacity);
+    end_in_words::<B, E, K, Front>(bits, first, last, begin)
 }
