@@ -3,7 +3,7 @@
 //! or, if these are tuples, the first parts that differ. After `holds!`, it shows the condition as
 //! the test writes it.
 //!
-//! `same!` has no text, because a check with a text takes three times as long to prove. Each type
+//! `same!` has no text, because a check with a text takes 2.5 times as long to prove. Each type
 //! that it compares implements `Compared`, so no test proves again that the type can be compared
 //! and printed.
 

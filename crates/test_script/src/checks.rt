@@ -2,7 +2,7 @@
 //! `assert_eq!`. If a check fails, the output names its test. After `same!`, it shows both values.
 //! After `holds!`, it shows the condition as the test writes it.
 //!
-//! `same!` has no text, because a check with a text takes three times as long to prove.
+//! `same!` has no text, because a check with a text takes 2.5 times as long to prove.
 
 use std::fmt::Debug;
 use std::process::Abort;
