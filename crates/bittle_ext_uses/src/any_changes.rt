@@ -28,6 +28,7 @@ pub fn clear<B: BitsMut, E: Endian>(set: &mut B, from: u32, to: u32)
 /// invariant of the loop says that the set still fits.
 pub fn add_each<B: BitsMut>(set: &mut B, indexes: &[u32]) -> usize
     requires { ShapeFits B.Shape set.old }
+    ensures { ShapeFits B.Shape set.new }
 {
     let mut out = 0usize;
     for index in indexes.iter() {
