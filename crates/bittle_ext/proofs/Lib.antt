@@ -10,6 +10,8 @@ mod CombinedWords
 mod Complements
 mod CopiedRanges
 mod DigitTexts
+mod EdgeRuns
+mod EdgeWords
 mod GatheredWords
 mod GrownSets
 mod MaximalRuns
@@ -33,7 +35,6 @@ mod WholeWords
 mod Windows
 mod WordsReplaced
 pub mod RunFacts
-mod RunEnds
 mod RunLists
 mod ShortRuns
 mod TurnedSets

@@ -1,11 +1,10 @@
 -- Searches that begin or end past the capacity.
-use Rattle.std.proofs.Common.{◌≡◌, ℕ, ◌≤◌, Bool, true, false, not, ◌&&◌, List, [], Option, Some, None, is_some, MatchBool, inl, inr, refl, sym, ap, ◌∙◌, arith, min}
+use Rattle.std.proofs.Common.{◌≡◌, ℕ, ◌≤◌, Bool, true, false, not, ◌&&◌, Option, Some, None, is_some, MatchBool, inl, inr, refl, sym, ap, ◌∙◌, arith, min}
 use Rattle.std.proofs.lemmas.Bool.{cases_lt, and_right, not-false, not-true}
 use Rattle.bittle.specs.PlainSet.{PlainSet, complement}
-use Rattle.bittle_bits.specs.Ends.{IsEndIn}
-use Rattle.bittle.specs.Searches.{NoneIn, IsFirstIn}
+use Rattle.bittle.specs.Searches.{IsFirstIn}
 use Rattle.bittle.proofs.CallerSets.{complement_within}
-use Rattle.bittle_ext.specs.RangeMembers.{EndsAt, HasAllIn, HasSomeIn, LacksSomeIn, TakesEnd}
+use Rattle.bittle_ext.specs.RangeMembers.{EndsAt, HasAllIn, HasSomeIn, LacksSomeIn}
 
 -- two sets of which nothing is a member from their capacities on
 module _ {s t : PlainSet} {a b : ℕ} (x : EndsAt s a) (y : EndsAt t b) (end : ℕ) where
@@ -17,18 +16,6 @@ module _ {s t : PlainSet} {a b : ℕ} (x : EndsAt s a) (y : EndsAt t b) (end : �
             ∙ and_right (s.has i) false refl
         | inr g ↦ ap (λ c. c && t.has i) (x.past i g)
       ]
-
--- if a search from an end finds nothing, the range has no member; and a step over an empty list
--- takes nothing
-pub none_at : (front : Bool) (s : PlainSet) (from to : ℕ) → IsEndIn front s from to None →
-    NoneIn s from to
-none_at true s from to none = none
-none_at false s from to none = none
-
-pub takes_none : {A : Type 0} (front : Bool) (xs ys : List A) → xs ≡ [] → ys ≡ [] →
-    TakesEnd front xs None ys
-takes_none true xs ys before after = (before, after)
-takes_none false xs ys before after = (before, after)
 
 -- a range has all numbers as members exactly if a search in the complement finds none
 pub all_where_none : (s : PlainSet) (from to : ℕ) (r : Option ℕ) (b : Bool) →

@@ -2,6 +2,7 @@ pub mod Calls
 pub mod Between
 pub mod Changes
 pub mod Combined
+pub mod Edges
 pub mod Groups
 pub mod Numbers
 pub mod RangeMembers

@@ -1,6 +1,5 @@
 -- Which members a set has between two numbers.
-use Rattle.std.specs.Iterator.{YieldsFirst, YieldsLast}
-use Rattle.std.specs.Prelude.{◌≡◌, ℕ, ◌-◌, ◌<◌, ◌≤◌, Bool, ◌&&◌, true, false, List, length, min, slice_index, Option}
+use Rattle.std.specs.Prelude.{◌≡◌, ℕ, ◌-◌, ◌<◌, ◌≤◌, Bool, ◌&&◌, true, false, List, length, min, slice_index}
 use Rattle.bittle.specs.PlainSet.{PlainSet, ascending, is_in_span, members_below}
 use Rattle.bittle.specs.Walk.{ones_or_zeros}
 
@@ -27,12 +26,6 @@ HasAllIn s from to = (k : ℕ) → from ≤ k → k < to → s.has k ≡ true
 -- some number of from..to is no member
 abbrev pub LacksSomeIn : PlainSet → ℕ → ℕ → Type 0
 LacksSomeIn s from to = (k : ℕ) × (from ≤ k) × (k < to) × (s.has k ≡ false)
-
--- a step took an item from a list, or found the list empty. It took the first item if the flag is
--- true, else the last one
-abbrev pub TakesEnd : {A : Type 0} → Bool → List A → Option A → List A → Type 0
-TakesEnd true = YieldsFirst (λ xs. xs)
-TakesEnd false = YieldsLast (λ xs. xs)
 
 -- the set of the members in from..to
 abbrev pub members_within : PlainSet → ℕ → ℕ → PlainSet

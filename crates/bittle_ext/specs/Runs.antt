@@ -85,14 +85,3 @@ RunsInOrder = YieldsInOrder (YieldsFirst (λ (rs : List (Range ℕ)). rs)) (λ r
 -- steps from the back yield the runs of a list in reverse
 abbrev pub RunsInReverse : Type 0
 RunsInReverse = YieldsInReverse (YieldsLast (λ (rs : List (Range ℕ)). rs)) (λ rs. rs)
-
--- each number of start..end is a member, and `end` is either `to` or no member
-abbrev pub EndsRun : PlainSet → ℕ → ℕ → ℕ → Type 0
-EndsRun s start to end = (start < end) × (end ≤ to) × HasAllIn s start end
-    × (end < to → s.has end ≡ false)
-
--- each number of start..=last is a member, and either `start` is `from` or the number before
--- `start` is no member
-abbrev pub BeginsRun : PlainSet → ℕ → ℕ → ℕ → Type 0
-BeginsRun s from last start = (from ≤ start) × (start ≤ last) × HasAllIn s start (last + 1)
-    × (from < start → s.has (start - 1) ≡ false)

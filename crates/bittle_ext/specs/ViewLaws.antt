@@ -1,12 +1,16 @@
 -- Proofs of the laws that a view's impl of `ReadWords` has to give.
-use Rattle.std.proofs.Common.{◌≡◌, ℕ, ◌*◌, ◌/◌, ◌%◌, ◌<◌, ◌≤◌, Bool, true, false, ◌&&◌, refl, ap, ◌∙◌, arith}
+use Rattle.std.proofs.Common.{◌≡◌, ℕ, ◌-◌, ◌*◌, ◌/◌, ◌%◌, ◌<◌, ◌≤◌, Bool, true, false, ◌&&◌, nat_le, refl, ap, ◌∙◌, arith}
 use Rattle.std.proofs.lemmas.Bool.{le-ltb, and_right}
 use Rattle.std.proofs.lemmas.Nat.{div-add-mod'}
 use Rattle.bittle.specs.Orders.{read_in}
 use Rattle.bittle.specs.PlainSet.{PlainSet, lacks, complement, is_in_span}
+use Rattle.bittle.specs.SetOperations.{just_one}
 use Rattle.bittle.specs.Walk.{ones_or_zeros}
+use Rattle.bittle_bits.proofs.OnesOrZeros.{ones_or_zeros-capacity}
 use Rattle.bittle_bits.proofs.PlainSets.{members-past}
+use Rattle.bittle_ext.specs.Edges.{edges}
 use Rattle.bittle_ext.specs.RangeMembers.{kind_within}
+use Rattle.bittle_ext.specs.Rotations.{has_shifted_up}
 use Rattle.bittle_ext.specs.Views.{decided_until, is_placed, read_back, HoldsBoth}
 
 -- a capacity that is a multiple of the word width is a number of whole words
@@ -52,3 +56,16 @@ none_past_within ones m w s from to word whole past =
     none_past_back m w (kind_within ones (read_in m w s) from to) word whole
     (λ i h. ap (λ b. is_in_span from to i && b) (none_past_kind ones m w s word whole past i h)
     ∙ and_right (is_in_span from to i) false refl)
+
+-- if the capacity of s is whole words, and s has no member from there on, the edges of s, read
+-- back, have none there either
+pub none_past_edges : (ones m : Bool) (w : ℕ) (s : PlainSet) → 0 < w →
+    (words : ℕ) × (s.capacity ≡ words * w) → ((i : ℕ) → s.capacity ≤ i → s.has i ≡ false) →
+    (i : ℕ) → s.capacity ≤ i → (read_back m w (edges ones (read_in m w s))).has i ≡ false
+unfolding has_shifted_up
+none_past_edges ones m w s word whole past =
+    let t = ones_or_zeros ones (read_in m w s) in
+    let end = ones_or_zeros-capacity ones (read_in m w s) in
+    none_past_back m w (edges ones (read_in m w s)) word whole (λ i h.
+    rw (none_past_kind ones m w s word whole past i h, le-ltb i t.capacity (omega (arith, h, end)))
+    (ap (λ b. just_one false (b && t.has (i - 1))) (and_right (nat_le 1 i) false refl)))

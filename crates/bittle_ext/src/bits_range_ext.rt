@@ -65,8 +65,8 @@ pub trait BitsRangeExt: Bits + Sized {
     /// Returns a double-ended iterator over the maximal runs of set bits, in increasing order. Each
     /// run is a range of indexes, which follow the bit order of the type.
     ///
-    /// The shape has to fit (`bits_capacity() < u32::MAX`). Each step makes at most two searches by
-    /// whole words. With capacity 0 it yields nothing.
+    /// The shape has to fit (`bits_capacity() < u32::MAX`). Each word is read at most twice. With
+    /// capacity 0 it yields nothing.
     ///
     /// ```
     /// 0b0110_0010u8.iter_one_runs();                      // yields 1..2, 5..7

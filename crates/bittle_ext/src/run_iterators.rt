@@ -1,21 +1,18 @@
 //! Iterators over the maximal runs of set bits, and of unset bits.
 
 ghost use Rattle.std.specs.Iterator.{YieldsFirst, YieldsLast, item_count};
-ghost use Rattle.std.specs.Prelude.{◌≡◌, ◌+◌, ◌<◌, ◌≤◌, true, not, ⊤, IsTrue};
-ghost use Rattle.bittle_ext.specs.RangeMembers.{TakesEnd};
-ghost use Rattle.bittle_ext.specs.Runs.{runs, runs_between, AreRunsBelow};
-ghost use Rattle.bittle_ext.specs.Runs.{BeginsRun, EndsRun, RunsInOrder, RunsInReverse};
-ghost use Rattle.bittle.specs.Searches.{NoneIn};
-ghost use Rattle.bittle.specs.Values.{set_in, ShapeFits};
-ghost use Rattle.bittle.specs.Walk.{ones_or_zeros};
+ghost use Rattle.std.specs.Prelude.{◌≡◌, ◌<◌, ◌⊎◌, true, false, ⊤, IsTrue, MatchBool};
+ghost use Rattle.bittle_ext.specs.Edges.{paired, AreByTurns, IsEven};
+ghost use Rattle.bittle_ext.specs.Runs.{runs, AreRunsBelow, RunsInOrder, RunsInReverse};
+ghost use Rattle.bittle.specs.PlainSet.{PlainSet};
+ghost use Rattle.bittle.specs.Values.{kind_in, ShapeFits};
 
-use crate::runs::Others;
+use crate::views::edges::Edges;
 use bittle::{Bits, Endian, Shape};
-use bittle_bits::extension::{
-    Back, End, Front, Kind, Ones, Word, Zeros, end_in, word_of_kind, word_width,
-};
+use bittle_bits::extension::{Kind, Ones, OwnedSource, ReadWords, Zeros};
+use bittle_bits::walk::{IntoIter, IntoIterOnes};
 use std::alloc::AllocError;
-use std::marker::{Model, PhantomData};
+use std::marker::Model;
 use std::ops::Range;
 
 /// An iterator over the maximal runs of set bits.
@@ -26,16 +23,17 @@ pub type IterZeroRuns<'a, B, E> = IterRuns<'a, B, E, Zeros>;
 
 /// An iterator over the maximal runs of bits of the kind `K` (set or unset) in a borrowed set,
 /// which is read in the order `E`. The runs are increasing, and steps are possible from both ends.
-/// Each step makes at most two searches by whole words: one for the next run, and one for the other
-/// end of that run. From the front, the second search begins past the word in which the run starts.
 /// Once no run remains, steps from both ends return `None`.
+///
+/// The iterator takes the edges of the set, two for each run. A run that reaches the capacity has
+/// one edge, at its start. Whether the last run is such a run is known only after a step from the
+/// back.
 #[derive(Drop)]
 pub struct IterRuns<'a, B: Shape, E: Endian, K: Kind> {
     bits: &'a B,
-    from: u32,
+    edges: IntoIterOnes<Edges<'a, B, E, K>, E>,
     to: u32,
-    order: PhantomData<E>,
-    kind: PhantomData<K>,
+    is_closed: bool,
 }
 
 impl<'a, B: Shape, E: Endian, K: Kind> Model for IterRuns<'a, B, E, K> {
@@ -44,16 +42,15 @@ impl<'a, B: Shape, E: Endian, K: Kind> Model for IterRuns<'a, B, E, K> {
 
     ghost Value = { List (Range ℕ) };
 
-    ghost use Rattle.std.specs.Prelude.{◌≤◌};
-    ghost use Rattle.bittle_ext.specs.Runs.{runs_between};
-    ghost use Rattle.bittle.specs.Values.{set_in, ShapeFits};
-    ghost use Rattle.bittle.specs.Walk.{ones_or_zeros};
+    ghost use Rattle.std.specs.Prelude.{◌≡◌, IsTrue};
+    ghost use Rattle.bittle_ext.specs.Edges.{paired, AreByTurns, IsEven};
+    ghost use Rattle.bittle.specs.Values.{kind_in, ShapeFits};
 
-    ghost view = { λ i. runs_between (ones_or_zeros K.ONES (set_in B.Shape E.Endian i.bits.now))
-        i.from i.to };
+    ghost view = { λ i. paired i.to i.edges.remaining };
 
-    ghost invariant = { λ i. ShapeFits B.Shape i.bits.now × (i.from ≤ i.to)
-        × (i.to ≤ (B.big i.bits.now).capacity) };
+    ghost invariant = { λ i. ShapeFits B.Shape i.bits.now × (i.to ≡ (B.big i.bits.now).capacity)
+        × AreByTurns (kind_in B.Shape E.Endian K.Kind i.bits.now) i.edges.remaining
+        × (IsTrue i.is_closed → IsEven i.edges.remaining) };
 }
 
 impl<'a, B: Bits, E: Endian, K: Kind> IterRuns<'a, B, E, K> {
@@ -61,17 +58,16 @@ impl<'a, B: Bits, E: Endian, K: Kind> IterRuns<'a, B, E, K> {
     #[inline]
     pub(crate) fn new(bits: &'a B) -> Self
         requires { ShapeFits B.Shape bits.now }
-        ensures items { result ≡ runs (ones_or_zeros K.ONES (set_in B.Shape E.Endian bits.now)) }
+        ensures items { result ≡ runs (kind_in B.Shape E.Endian K.Kind bits.now) }
         ensures below { AreRunsBelow (B.big bits.now).capacity result }
         ensures in_order { RunsInOrder }
         ensures in_reverse { RunsInReverse }
     {
         IterRuns {
             bits,
-            from: 0,
+            edges: IntoIter::new(OwnedSource::new(Edges::of(bits))),
             to: bits.bits_capacity(),
-            order: PhantomData,
-            kind: PhantomData,
+            is_closed: false,
         }
     }
 }
@@ -85,7 +81,7 @@ impl<'a, B: Bits, E: Endian, K: Kind> Iterator for IterRuns<'a, B, E, K> {
 
     #[inline]
     fn next(&mut self) -> Option<Range<u32>> {
-        step::<B, E, K, Front>(self.bits, &mut self.from, &mut self.to)
+        first_run::<B, E, K>(&mut self.edges, self.to)
     }
 }
 
@@ -94,7 +90,7 @@ impl<'a, B: Bits, E: Endian, K: Kind> DoubleEndedIterator for IterRuns<'a, B, E,
 
     #[inline]
     fn next_back(&mut self) -> Option<Range<u32>> {
-        step::<B, E, K, Back>(self.bits, &mut self.from, &mut self.to)
+        last_run::<B, E, K>(self.bits, &mut self.edges, self.to, &mut self.is_closed)
     }
 }
 
@@ -107,106 +103,73 @@ impl<'a, B: Bits, E: Endian, K: Kind> Clone for IterRuns<'a, B, E, K> {
     fn clone(&self) -> Result<IterRuns<'a, B, E, K>, AllocError> {
         Ok(IterRuns {
             bits: self.bits,
-            from: self.from,
+            edges: self.edges.clone()?,
             to: self.to,
-            order: PhantomData,
-            kind: PhantomData,
+            is_closed: self.is_closed,
         })
     }
 }
 
-/// Searches the word of `start` for the first index after `start` whose bit is not of the kind `K`.
-/// Returns this index and `true`. If there is none, returns the index after the last one of the
-/// word, and `false`.
+/// Takes the edges of the first run, and returns this run. Returns `None` if no edge is left. A run
+/// without an edge at its end reaches `to`.
 #[inline]
-fn end_in_word<B: Bits, E: Endian, K: Kind>(bits: &B, start: u32) -> (u32, bool)
-    requires fits { ShapeFits B.Shape bits.now }
-    requires inside { start < (B.big bits.now).capacity }
-    requires member { (ones_or_zeros K.ONES (set_in B.Shape E.Endian bits.now)).has start ≡ true }
-    ensures after { start < result.0 }
-    ensures within { result.0 ≤ (B.big bits.now).capacity }
-    ensures none { NoneIn (ones_or_zeros (not K.ONES) (set_in B.Shape E.Endian bits.now))
-        (start + 1) result.0 }
-    ensures ended { IsTrue result.1 → (ones_or_zeros (not K.ONES)
-        (set_in B.Shape E.Endian bits.now)).has result.0 ≡ true }
-{
-    let width = word_width::<B>();
-    let k = start / width;
-    let since = E::from_index::<B::LeafWord>(start % width);
-    let word = word_of_kind::<B, Others<K>>(bits, k as usize).and(since);
-    let lead = E::zeros::<B::LeafWord>(word);
-    let end = k * width + lead;
-    (end, lead != width)
-}
-
-/// Returns the end of the run that begins at `start`: the index after the last one of the run. The
-/// run is cut off at `to`. A search begins only after the word of `start`, and only if the run
-/// reaches the end of that word.
-#[inline]
-fn end_of_run<B: Bits, E: Endian, K: Kind>(bits: &B, start: u32, to: u32) -> u32
-    requires fits { ShapeFits B.Shape bits.now }
-    requires ordered { start < to }
-    requires within { to ≤ (B.big bits.now).capacity }
-    requires member { (ones_or_zeros K.ONES (set_in B.Shape E.Endian bits.now)).has start ≡ true }
-    ensures { EndsRun (ones_or_zeros K.ONES (set_in B.Shape E.Endian bits.now)) start to result }
-{
-    let (end, is_ended) = end_in_word::<B, E, K>(bits, start);
-    if to <= end {
-        return to;
-    }
-    if is_ended {
-        return end;
-    }
-    match end_in::<B, E, Others<K>, Front>(bits, end, to) {
-        Some(later) => later,
-        None => to,
-    }
-}
-
-/// Returns the first index of the run that ends with `last`. The run is cut off at `from`: its
-/// indexes below `from` do not count.
-#[inline]
-fn start_of_run<B: Bits, E: Endian, K: Kind>(bits: &B, from: u32, last: u32) -> u32
-    requires fits { ShapeFits B.Shape bits.now }
-    requires ordered { from ≤ last }
-    requires within { last < (B.big bits.now).capacity }
-    requires member { (ones_or_zeros K.ONES (set_in B.Shape E.Endian bits.now)).has last ≡ true }
-    ensures { BeginsRun (ones_or_zeros K.ONES (set_in B.Shape E.Endian bits.now)) from last result }
-{
-    match end_in::<B, E, Others<K>, Back>(bits, from, last) {
-        Some(gap) => gap + 1,
-        None => from,
-    }
-}
-
-/// Removes the first of the remaining runs if the end `N` is the front, else the last one, and
-/// returns it. Returns `None` if no run remains.
-#[inline]
-fn step<B: Bits, E: Endian, K: Kind, N: End>(
-    bits: &B,
-    from: &mut u32,
-    to: &mut u32,
+fn first_run<B: ReadWords, E: Endian, K: Kind>(
+    edges: &mut IntoIterOnes<Edges<'_, B, E, K>, E>,
+    to: u32,
 ) -> Option<Range<u32>>
-    requires fits { ShapeFits B.Shape bits.now }
-    requires ordered { from.old ≤ to.old }
-    requires within { to.old ≤ (B.big bits.now).capacity }
-    ensures gave { let ours = ones_or_zeros K.ONES (set_in B.Shape E.Endian bits.now) in
-        TakesEnd N.FRONT (runs_between ours from.old to.old) result
-        (runs_between ours from.new to.new) }
-    ensures ordered { from.new ≤ to.new }
-    ensures within { to.new ≤ to.old }
+    ensures gave { YieldsFirst (λ e. paired to e.remaining) edges.old result edges.new }
+    ensures turns { (s : PlainSet) → AreByTurns s edges.old.remaining
+        → AreByTurns s edges.new.remaining }
+    ensures even { IsEven edges.old.remaining → IsEven edges.new.remaining }
 {
-    let Some(index) = end_in::<B, E, K, N>(bits, *from, *to) else {
-        *from = *to;
+    let Some(start) = edges.next() else {
         return None;
     };
-    if N::FRONT {
-        let end = end_of_run::<B, E, K>(bits, index, *to);
-        *from = end;
-        Some(index..end)
-    } else {
-        let start = start_of_run::<B, E, K>(bits, *from, index);
-        *to = start;
-        Some(start..index + 1)
+    match edges.next() {
+        Some(end) => Some(start..end),
+        None => Some(start..to),
+    }
+}
+
+/// Returns whether the bit at the index `last` is of the kind `K`. If `is_closed` is `true`, returns
+/// `false`.
+#[inline]
+fn is_open<B: Bits, E: Endian, K: Kind>(bits: &B, last: u32, is_closed: bool) -> bool
+    requires fits { ShapeFits B.Shape bits.now }
+    requires within { last < (B.big bits.now).capacity }
+    ensures { let ours = kind_in B.Shape E.Endian K.Kind bits.now in MatchBool result
+        (ours.has last ≡ true) (IsTrue is_closed ⊎ (ours.has last ≡ false)) }
+{
+    !is_closed && bits.test_bit_in::<E>(last) == K::ONES
+}
+
+/// Takes the edges of the last run, and returns this run. Returns `None` if no edge is left.
+/// `is_closed` tells whether it is known that the last run has an edge at its end. If this is not
+/// known, the bit at the last edge tells it. A run without an edge at its end reaches `to`.
+#[inline]
+fn last_run<B: Bits, E: Endian, K: Kind>(
+    bits: &B,
+    edges: &mut IntoIterOnes<Edges<'_, B, E, K>, E>,
+    to: u32,
+    is_closed: &mut bool,
+) -> Option<Range<u32>>
+    requires fits { ShapeFits B.Shape bits.now }
+    requires turns { AreByTurns (kind_in B.Shape E.Endian K.Kind bits.now) edges.old.remaining }
+    requires closed { IsTrue is_closed.old → IsEven edges.old.remaining }
+    ensures gave { YieldsLast (λ e. paired to e.remaining) edges.old result edges.new }
+    ensures turns { AreByTurns (kind_in B.Shape E.Endian K.Kind bits.now) edges.new.remaining }
+    ensures closed { IsTrue is_closed.new → IsEven edges.new.remaining }
+{
+    let Some(last) = edges.next_back() else {
+        return None;
+    };
+    let is_open = is_open::<B, E, K>(bits, last, *is_closed);
+    *is_closed = true;
+    if is_open {
+        return Some(last..to);
+    }
+    match edges.next_back() {
+        Some(start) => Some(start..last),
+        None => None,
     }
 }

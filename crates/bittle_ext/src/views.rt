@@ -33,6 +33,7 @@ use bittle_bits::walk::{IntoIter, IntoIterOnes, IntoIterZeros};
 mod by_groups;
 mod by_words;
 pub mod complement;
+pub(crate) mod edges;
 pub mod in_order;
 pub mod in_order_mut;
 pub mod of_both;

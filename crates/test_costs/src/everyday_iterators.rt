@@ -75,19 +75,20 @@ fn an_iterator_over_a_range_fetches_each_word_of_it_once(rt: HostRuntime) {
     measure_rows(&rt, Walk::Ranges);
 }
 
-// Each of the two iterators fetches 16 words. It fetches eight to find the run that begins at 451,
-// and one to find the end of this run. It fetches one to find the run that begins at 508, and one
-// to find its end. Then it fetches five words up to the end of the set, and finds no other run.
+// Each of the iterators fetches 23 words. It fetches each of the twelve for the edges in that word,
+// and each but the last once more, for those in the word after it. From the back it also tests one
+// bit, to learn whether the last run reaches the end of the set.
 fn iterate_over_runs<B: Bits>(rt: &impl Abort, few: &B, most: &B, asked: &Asked)
     requires few { ShapeFits B.Shape few.now }
     requires most { ShapeFits B.Shape most.now }
 {
-    costs!(rt; asked, few.iter_one_runs().count(), 2, 16, 0);
-    costs!(rt; asked, most.iter_zero_runs().count(), 2, 16, 0);
+    costs!(rt; asked, few.iter_one_runs().count(), 2, 23, 0);
+    costs!(rt; asked, few.iter_one_runs().rev().count(), 2, 23, 1);
+    costs!(rt; asked, most.iter_zero_runs().count(), 2, 23, 0);
 }
 
 #[test]
-fn an_iterator_over_runs_searches_twice_for_each(rt: HostRuntime) {
+fn an_iterator_over_runs_fetches_no_word_three_times(rt: HostRuntime) {
     measure_rows(&rt, Walk::Runs);
 }
 

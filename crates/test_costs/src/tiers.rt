@@ -11,7 +11,7 @@ use crate::probe::{ONES, Probe, ZEROS};
 use crate::walked::{count_ones, count_zeros};
 use bit_pages::Pages;
 use bittle::{BigEndian, Bits, BitsOwned, LittleEndian, Set, Shape};
-use bittle_ext::{BitsExt, BitsViewExt};
+use bittle_ext::{BitsExt, BitsRangeExt, BitsViewExt};
 use bittle_tiers::{Ones, Tiered, Zeros};
 use std::process::Abort;
 
@@ -61,6 +61,7 @@ enum Question {
     Common(usize),
     Views,
     Runs,
+    RunWalks,
 }
 
 // Makes the calls of a question, and tests what they return. The members of `one` are 0 and 31.
@@ -75,6 +76,7 @@ fn ask<B: BitsOwned>(rt: &impl Abort, question: Question, one: B, other: B, aske
         Question::Common(wanted) => same!(*rt; count_ones(&one.and(&other)), wanted),
         Question::Views => count_in_views(rt, &one),
         Question::Runs => look_for_runs(rt, &one),
+        Question::RunWalks => same!(*rt; count_runs(&one), (2, 2)),
     }
 }
 
@@ -259,4 +261,22 @@ fn look_for_runs<B: Bits>(rt: &impl Abort, set: &B)
 fn a_run_is_looked_for_past_words_without_a_bit(rt: HostRuntime) {
     // Each call fetches the first and the last of the four words.
     ask_ones(&rt, Question::Runs, [0; 4], (4, 0, 0));
+}
+
+// Counts the runs of set bits with two iterators: one stepped from the front, and one from the back.
+fn count_runs<B: Bits>(set: &B) -> (usize, usize)
+    requires { ShapeFits B.Shape set.now }
+{
+    (
+        set.iter_one_runs().count(),
+        set.iter_one_runs().rev().count(),
+    )
+}
+
+#[test]
+fn an_iterator_over_runs_passes_over_words_without_a_bit(rt: HostRuntime) {
+    // The first word is fetched once for its own edges. Words 1 and 3 are each fetched with the word
+    // before. The iterator from the front skips word 2. The one from the back also reads word 2 with
+    // the word before, since word 1 might end with a set bit. It tests one bit.
+    ask_ones(&rt, Question::RunWalks, [0; 4], (12, 0, 1));
 }
