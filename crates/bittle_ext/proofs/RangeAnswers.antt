@@ -1,5 +1,5 @@
 -- Results of `all_in_range` and `any_in_range`, for proofs of callers.
-use Rattle.std.proofs.Common.{◌≡◌, ℕ, Bool, true, false, IsTrue, MatchBool, ◌↔◌, refl, sym, ◌∙◌}
+use Rattle.std.proofs.Common.{ℕ, Bool, true, false, IsTrue, MatchBool, ◌↔◌, refl, sym, ◌∙◌}
 use Rattle.std.proofs.lemmas.Bool.{true≢false}
 use Rattle.bittle.specs.PlainSet.{PlainSet}
 use Rattle.bittle.specs.Searches.{NoneIn}
