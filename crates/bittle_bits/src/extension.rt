@@ -10,7 +10,7 @@ pub use crate::internal::by_fours::first_in_words;
 pub use crate::internal::decided::{first_decided_at_once, first_decided_below};
 pub use crate::internal::range_count::{count_in_word, count_ones as count_ones_in_range};
 pub use crate::internal::sealed::Sealed;
-pub use crate::internal::search::{end_in, first_from};
+pub use crate::internal::search::{end_in, first_from, last_of};
 pub use crate::internal::source::{OwnedSource, word_of_kind};
 pub use crate::kind::{Kind, Ones, Zeros};
 pub use crate::one_word::{all_zeros as is_without_bits, pop, range, set_bit, test_bit};

@@ -12,7 +12,7 @@ use crate::capacities::capacity_of;
 use crate::runs;
 use crate::select::{place_of_rank, word_of_rank};
 use bittle::Bits;
-use bittle_bits::extension::{Ones, Word, Zeros, first_from};
+use bittle_bits::extension::{Ones, Word, Zeros, first_from, last_of};
 
 /// Questions about any set, beyond the calls of [`Bits`].
 ///
@@ -64,7 +64,7 @@ pub trait BitsExt: Bits + Sized {
         ensures { let ours = set_in Self.Shape Self.Order.Endian self.now in
             IsLastIn ours 0 ours.capacity result }
     {
-        self.last_one_in::<Self::Order>(0, self.bits_capacity())
+        last_of::<Self, Self::Order, Ones>(self)
     }
 
     /// Returns the greatest index of an unset bit, or `None` if no bit is unset. Indexes follow the
@@ -79,7 +79,7 @@ pub trait BitsExt: Bits + Sized {
         ensures { let ours = set_in Self.Shape Self.Order.Endian self.now in
             IsLastIn (complement ours) 0 ours.capacity result }
     {
-        self.last_zero_in::<Self::Order>(0, self.bits_capacity())
+        last_of::<Self, Self::Order, Zeros>(self)
     }
 
     /// Returns the least index at or above `from` whose bit is set, or `None` if there is none. If

@@ -3,11 +3,11 @@
 
 ghost use Rattle.std.specs.Prelude.{◌≡◌, ◌+◌, ◌*◌, ◌<◌, ◌≤◌, cond, Bool, ℕ};
 ghost use Rattle.bittle_bits.specs.Ends.{is_ahead, IsEndIn};
-ghost use Rattle.bittle_bits.specs.Searches.{IsFirstIn, IsNextWord};
+ghost use Rattle.bittle_bits.specs.Searches.{IsFirstIn, IsLastIn, IsNextWord};
 ghost use Rattle.bittle_bits.specs.Values.{kind_in, set_mirrored, word_in, ShapeFits};
 ghost use Rattle.bittle_bits.specs.Walk.{ones_or_zeros};
 
-use crate::end::{End, Front, at_end};
+use crate::end::{Back, End, Front, at_end};
 use crate::endian::Endian;
 use crate::internal::ends::ends;
 use crate::internal::source::{pass_over, word_of_kind};
@@ -137,4 +137,19 @@ pub fn first_from<B: ReadWords, E: Endian, K: Kind>(bits: &B, from: u32) -> Opti
     }
     let (first, begin, last, _) = ends(word_width::<B>(), from, capacity);
     end_in_words::<B, E, K, Front>(bits, first, last, begin)
+}
+
+/// Returns the greatest index whose bit is of the kind `K`, or `None` if there is no such bit.
+#[inline]
+pub fn last_of<B: ReadWords, E: Endian, K: Kind>(bits: &B) -> Option<u32>
+    requires { ShapeFits B.Shape bits.now }
+    ensures { IsLastIn (kind_in B.Shape E.Endian K.Kind bits.now) 0 (B.big bits.now).capacity
+        result }
+{
+    let width = word_width::<B>();
+    let words = bits.capacity() / width;
+    if words == 0 {
+        return None;
+    }
+    end_in_words::<B, E, K, Back>(bits, 0, words - 1, width - 1)
 }
