@@ -20,7 +20,9 @@ use crate::inserted::insert_each;
 use crate::one_bit;
 use crate::retained::retain;
 use bittle::{BigEndian, BitsMut};
-use bittle_bits::extension::{Difference, Ones, SymmetricDifference, Union, Zeros, first_from};
+use bittle_bits::extension::{
+    Difference, Ones, SymmetricDifference, Union, Zeros, first_from, last_of,
+};
 
 /// Everyday changes of any set that can be changed. No change alters the capacity. A shape or type
 /// fits if its capacity, and that of each array type within it, is below `u32::MAX`. The bit order
@@ -209,7 +211,8 @@ pub trait BitsMutExt: BitsMut + Sized {
     /// order of the type. If no bit is set, as with capacity 0, nothing changes, and the call
     /// returns `None`.
     ///
-    /// The shape has to fit (`bits_capacity() < u32::MAX`). The words up to the answer are read.
+    /// The shape has to fit (`bits_capacity() < u32::MAX`). The words up to the answer are read,
+    /// and the word of the answer once more.
     ///
     /// ```
     /// let mut row = [0x00u8, 0x81];
@@ -230,7 +233,7 @@ pub trait BitsMutExt: BitsMut + Sized {
         ensures stays { Self.loan self.old ≡ Self.loan self.new }
     {
         let first = first_from::<Self, Self::Order, Ones>(&*self, 0)?;
-        self.clear_bit_in::<Self::Order>(first);
+        one_bit::combine_within::<Self, Self::Order, Difference>(self, first);
         Some(first)
     }
 
@@ -239,7 +242,7 @@ pub trait BitsMutExt: BitsMut + Sized {
     /// returns `None`.
     ///
     /// The shape has to fit (`bits_capacity() < u32::MAX`). The words are read backward from the
-    /// last one, down to the answer.
+    /// last one, down to the answer, and the word of the answer once more.
     ///
     /// ```
     /// let mut row = [0x00u8, 0x81];
@@ -259,8 +262,8 @@ pub trait BitsMutExt: BitsMut + Sized {
             ≡ size (set_in Self.Shape Self.Order.Endian self.old)) }
         ensures stays { Self.loan self.old ≡ Self.loan self.new }
     {
-        let last = self.last_one_in::<Self::Order>(0, self.bits_capacity())?;
-        self.clear_bit_in::<Self::Order>(last);
+        let last = last_of::<Self, Self::Order, Ones>(&*self)?;
+        one_bit::combine_within::<Self, Self::Order, Difference>(self, last);
         Some(last)
     }
 
@@ -268,7 +271,8 @@ pub trait BitsMutExt: BitsMut + Sized {
     /// does. Indexes follow the bit order of the type. If no bit is unset, as with capacity 0,
     /// nothing changes, and the call returns `None`.
     ///
-    /// The shape has to fit (`bits_capacity() < u32::MAX`). The words up to the answer are read.
+    /// The shape has to fit (`bits_capacity() < u32::MAX`). The words up to the answer are read,
+    /// and the word of the answer once more.
     ///
     /// ```
     /// let mut row = [0xFFu8, 0x0F];
@@ -285,7 +289,7 @@ pub trait BitsMutExt: BitsMut + Sized {
         ensures stays { Self.loan self.old ≡ Self.loan self.new }
     {
         let free = first_from::<Self, Self::Order, Zeros>(&*self, 0)?;
-        self.set_bit_in::<Self::Order>(free);
+        one_bit::combine_within::<Self, Self::Order, Union>(self, free);
         Some(free)
     }
 

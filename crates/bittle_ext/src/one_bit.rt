@@ -22,7 +22,7 @@ pub fn has_bits<B: Bits>(set: &B) -> bool
 /// `Difference` clears it, and `SymmetricDifference` flips it. Returns whether the bit was set
 /// before.
 #[inline]
-fn combine_within<B: BitsMut, E: Endian, O: RangeOperation>(set: &mut B, index: u32) -> bool
+pub fn combine_within<B: BitsMut, E: Endian, O: RangeOperation>(set: &mut B, index: u32) -> bool
     requires fits { ShapeFits B.Shape set.old }
     requires within { index < (B.big set.old).capacity }
     ensures was_set { result ≡ contains (set_in B.Shape E.Endian set.old) index }

@@ -118,8 +118,8 @@ fn a_change_of_a_range_asks_each_element_of_it_once(rt: HostRuntime) {
 fn take_members<B: BitsOwned>(rt: &impl Abort, mut few: B, asked: &Asked)
     requires { IsTrue B.indexable }
 {
-    costs!(rt; asked, few.pop_first(), Some(451), 8, 1);
-    costs!(rt; asked, few.pop_last(), Some(508), 5, 1);
+    costs!(rt; asked, few.pop_first(), Some(451), 9, 1);
+    costs!(rt; asked, few.pop_last(), Some(508), 6, 1);
     costs!(rt; asked, few.pop_first(), None, 12, 0);
     costs!(rt; asked, few.pop_last(), None, 12, 0);
 }
@@ -128,7 +128,7 @@ fn take_others<B: BitsOwned>(rt: &impl Abort, mut most: B, asked: &Asked)
     requires { IsTrue B.indexable }
 {
     costs!(rt; asked, most.take_first_zero_run(1), Some(451), 8, 1);
-    costs!(rt; asked, most.take_first_zero(), Some(508), 8, 1);
+    costs!(rt; asked, most.take_first_zero(), Some(508), 9, 1);
     costs!(rt; asked, most.take_first_zero(), None, 12, 0);
     costs!(rt; asked, most.take_first_zero_run(1), None, 12, 0);
 }

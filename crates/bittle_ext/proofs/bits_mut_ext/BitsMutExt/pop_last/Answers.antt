@@ -1,16 +1,21 @@
-use Rattle.std.proofs.Common.{◌+◌, sym, ap, ◌∙◌}
-use Rattle.bittle.specs.PlainSet.{size}
+use Rattle.std.proofs.Common.{◌+◌, false, refl, sym, ap, ◌∙◌}
+use Rattle.std.proofs.lemmas.Bool.{and_right}
+use Rattle.bittle.specs.PlainSet.{PlainSet, contains, size}
+use Rattle.bittle.specs.Values.{set_in}
 use Rattle.bittle.proofs.CallerChanges.{size_without}
 use Rattle.bittle.proofs.CallerSets.{size_zero}
+use Rattle.bittle_ext.specs.Changes.{with_index_assigned}
 use Rattle.bittle_ext.proofs.bits_mut_ext.BitsMutExt.pop_last.Goals as goal
 
 pub returns-in_err-last-clause-fewer : goal.returns-in_err-last-clause-fewer
 returns-in_err-last-clause-fewer g c =
-    let cap = c.bits_capacity.ensures.value c.requires in
-    rw c.from_residual.ensures (size_zero _ (rw cap at c.in_err-last.ensures))
+    rw c.from_residual.ensures (size_zero _ c.in_err-last.ensures)
 
 pub returns-clause-fewer : goal.returns-clause-fewer
 returns-clause-fewer g c =
-    let cap = c.bits_capacity.ensures.value c.requires in
-    let found = rw cap at c.in_ok-last.ensures in
-    ap (λ s. size s + 1) c.clear_bit_in.ensures.set ∙ sym (size_without _ _ found.1 found.2)
+    let s : PlainSet = set_in g.Self.Shape g.Self.Order.Endian c.args.self.now in
+    let i = c.in_ok-last.last in
+    let found = c.in_ok-last.ensures in
+    ap (λ t. size t + 1) (c.combine_within.ensures.set
+    ∙ ap (with_index_assigned s i) (and_right (contains s i) false refl)) ∙ sym
+    (size_without _ _ found.1 found.2)
