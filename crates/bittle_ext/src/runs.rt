@@ -8,12 +8,12 @@ ghost use Rattle.bittle.specs.Walk.{ones_or_zeros};
 
 use crate::short_runs::next_short_run;
 use bittle::{Bits, Endian};
-use bittle_bits::extension::{Back, Front, Kind, Sealed, end_in, word_width};
+use bittle_bits::extension::{Back, Front, Kind, Sealed, end_in, first_from, word_width};
 use std::marker::PhantomData;
 
 /// The kind of bits that is not `K`: unset bits if `K` is `Ones`, else set bits.
 #[derive(Drop)]
-pub(crate) struct Others<K: Kind> {
+struct Others<K: Kind> {
     kind: PhantomData<K>,
 }
 
@@ -31,13 +31,16 @@ impl<K: Kind> Kind for Others<K> {
 const FEW_WORDS: u32 = 4;
 
 /// Returns the least index at or above `from` where a run of `length` bits of the kind `K` begins,
-/// or `None` if there is no such run.
+/// or `None` if there is no such run. A run of one bit is a bit, and is searched for as one.
 #[inline]
 pub fn next_run<B: Bits, E: Endian, K: Kind>(bits: &B, from: u32, length: u32) -> Option<u32>
     requires { ShapeFits B.Shape bits.now }
     ensures { IsFirstRun (ones_or_zeros K.ONES (set_in B.Shape E.Endian bits.now)) from length
         result }
 {
+    if length == 1 {
+        return first_from::<B, E, K>(bits, from);
+    }
     next_run_before::<B, E, K>(bits, from, bits.bits_capacity(), length)
 }
 

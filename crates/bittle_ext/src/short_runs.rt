@@ -38,9 +38,8 @@ fn first_in_word<W: Word, E: Endian>(word: W, length: u32) -> Option<u32>
 /// Returns the least index at or above `from` where a run of `length` bits of the kind `K` (set or
 /// unset) begins, or `None` if there is no such run. The run must lie in the first `words` words.
 ///
-/// Of the words that it has read, the loop remembers only the index `start`. All bits from `start`
-/// up to the current word are of the kind `K`. No run that can still be found begins before
-/// `start`.
+/// Of the words that it has read, the loop remembers only the number `open`: how many bits right
+/// before the current word are of the kind `K` and may begin a run that can still be found.
 #[inline]
 pub fn next_short_run<B: Bits, E: Endian, K: Kind>(
     bits: &B,
@@ -57,29 +56,31 @@ pub fn next_short_run<B: Bits, E: Endian, K: Kind>(
 {
     let width = word_width::<B>();
     let mut k = from / width;
-    let mut start = k * width;
+    let mut open = 0u32;
     let since = E::from_index::<B::LeafWord>(from % width);
     let mut word = word_of_kind::<B, K>(bits, k as usize).and(since);
     loop {
         let lead = E::ones::<B::LeafWord>(word);
-        if length <= k * width + lead - start {
-            return Some(start);
+        if length <= open + lead {
+            return Some(k * width - open);
         }
         if length < width {
             if let Some(index) = first_in_word::<B::LeafWord, E>(word, length) {
                 return Some(k * width + index);
             }
         }
+        open = if lead == width {
+            open + width
+        } else {
+            E::ones_rev::<B::LeafWord>(word)
+        };
         let after = k + 1;
-        if lead != width {
-            start = after * width - E::ones_rev::<B::LeafWord>(word);
-        }
         let next = bits.pass_over::<K, Front>(after as usize, words as usize) as u32;
         if next == words {
             return None;
         }
         if next != after {
-            start = next * width;
+            open = 0;
         }
         k = next;
         word = word_of_kind::<B, K>(bits, k as usize);

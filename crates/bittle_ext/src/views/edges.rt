@@ -15,10 +15,10 @@ use std::alloc::AllocError;
 use std::marker::PhantomData;
 
 /// A view of the edges of a borrowed set. An index is set in the view if just one of two bits is of
-/// the kind `K`: the bit at this index, and the bit right before it. So by turns an edge begins a
-/// run of bits of the kind `K`, and is the first index after one. A run that reaches the capacity
-/// has no edge at its end. The view has the capacity of the set, and both are read in the order
-/// `E`.
+/// the kind `K`: the bit at this index, and the bit right before it. So the first edge begins a run
+/// of bits of the kind `K`, the second edge is the first index after this run, the third begins the
+/// next run, and so on. A run that reaches the capacity has no edge at its end. The view has the
+/// capacity of the set, and both are read in the order `E`.
 ///
 /// A word of the view is computed when it is read, from that word of the set and from the word
 /// before it.
