@@ -38,15 +38,18 @@ copied_none s t at from = ap (plain_set s.capacity) (fun_ext λ k. elim (cases_l
   | inr g ↦ sym (copied-outside s t at 0 from k (inr (omega (arith, g))))
 ])
 
--- if the first `done` numbers are copied, and then `more` after them as the bits of a number,
--- `done + more` are copied
-pub copied_after : (s t : PlainSet) (at done more from d : ℕ) → more ≤ 128 →
-    HasBitsOf t (from + done) more d →
-    with_copied (with_copied s at done t from) (at + done) more (bit_set 128 d) 0
+-- for each i below n, i is a member of u exactly if first + i is a member of s
+abbrev pub BeginsLike : PlainSet → PlainSet → ℕ → ℕ → Type 0
+BeginsLike u s first n = (i : ℕ) → i < n → u.has i ≡ s.has (first + i)
+
+-- if the first `done` numbers are copied, and then `more` after them from a set that begins like
+-- the rest, `done + more` are copied
+pub copied_after : (s t : PlainSet) (at done more from : ℕ) (v : PlainSet) →
+    BeginsLike v t (from + done) more →
+    with_copied (with_copied s at done t from) (at + done) more v 0
     ≡ with_copied s at (done + more) t from
-copied_after s t at done more from d small bits =
+copied_after s t at done more from v same =
     let u = with_copied s at done t from in
-    let v = bit_set 128 d in
     ap (plain_set s.capacity) (fun_ext λ k. elim (cases_lt k (at + done)) [
       | inl l ↦ copied-outside u v (at + done) more 0 k (inl l) ∙ elim (cases_lt k at) [
         | inl b ↦ copied-outside s t at done from k (inl b)
@@ -57,11 +60,9 @@ copied_after s t at done more from d small bits =
       | inr g ↦ elim (cases_lt k (at + done + more)) [
         | inl l ↦
             let i = k - (at + done) in
-            let low : i < more = omega (arith, l, g) in
             let zero_more : k - (at + done) + 0 ≡ i = omega arith in
             copied-inside u v (at + done) more 0 k g l ∙ ap v.has zero_more
-            ∙ bit_has-at 128 d i (omega (arith, low, small)) ∙ bits i low
-            ∙ ap t.has (omega (arith, g))
+            ∙ same i (omega (arith, l, g)) ∙ ap t.has (omega (arith, g))
             ∙ sym (copied-inside s t at (done + more) from k (omega (arith, g)) (omega (arith, l)))
         | inr far ↦ copied-outside u v (at + done) more 0 k (inr far)
             ∙ copied-outside s t at done from k (inr (omega (arith, g)))
@@ -69,15 +70,14 @@ copied_after s t at done more from d small bits =
       ]
     ])
 
--- if the last n numbers are copied, and then `more` before them as the bits of a number, `more + n`
--- are copied
-pub copied_before : (s t : PlainSet) (at more n from d : ℕ) → more ≤ 128 →
-    HasBitsOf t from more d →
-    with_copied (with_copied s (at + more) n t (from + more)) at more (bit_set 128 d) 0
+-- if the last n numbers are copied, and then `more` before them from a set that begins like the
+-- rest, `more + n` are copied
+pub copied_before : (s t : PlainSet) (at more n from : ℕ) (v : PlainSet) →
+    BeginsLike v t from more →
+    with_copied (with_copied s (at + more) n t (from + more)) at more v 0
     ≡ with_copied s at (more + n) t from
-copied_before s t at more n from d small bits =
+copied_before s t at more n from v same =
     let u = with_copied s (at + more) n t (from + more) in
-    let v = bit_set 128 d in
     ap (plain_set s.capacity) (fun_ext λ k. elim (cases_lt k at) [
       | inl b ↦ copied-outside u v at more 0 k (inl b)
           ∙ copied-outside s t (at + more) n (from + more) k (inl (omega (arith, b)))
@@ -85,11 +85,9 @@ copied_before s t at more n from d small bits =
       | inr a ↦ elim (cases_lt k (at + more)) [
         | inl l ↦
             let i = k - at in
-            let low : i < more = omega (arith, l, a) in
             let zero_more : k - at + 0 ≡ i = omega arith in
             copied-inside u v at more 0 k a l ∙ ap v.has zero_more
-            ∙ bit_has-at 128 d i (omega (arith, low, small)) ∙ bits i low
-            ∙ ap t.has (omega arith)
+            ∙ same i (omega (arith, l, a)) ∙ ap t.has (omega arith)
             ∙ sym (copied-inside s t at (more + n) from k a (omega (arith, l)))
         | inr g ↦ copied-outside u v at more 0 k (inr g) ∙ elim (cases_lt k (at + more + n)) [
           | inl h ↦ copied-inside s t (at + more) n (from + more) k g h
@@ -101,15 +99,32 @@ copied_before s t at more n from d small bits =
       ]
     ])
 
--- outside the copied range, the bits of a number read after the copy are those of the set before it
-pub bits_outside : (s t : PlainSet) (at n from first more d : ℕ) →
+-- what begins like a set outside a copied range begins like the set before the copy
+pub like_outside : (s t : PlainSet) (at n from first more : ℕ) (v : PlainSet) →
     (first + more ≤ at) ⊎ (at + n ≤ first) →
-    HasBitsOf (with_copied s at n t from) first more d → HasBitsOf s first more d
-bits_outside s t at n from first more d apart bits i h =
-    bits i h ∙ elim apart [
+    BeginsLike v (with_copied s at n t from) first more → BeginsLike v s first more
+like_outside s t at n from first more v apart same i h =
+    same i h ∙ elim apart [
       | inl below ↦ copied-outside s t at n from (first + i) (inl (omega (arith, below, h)))
       | inr above ↦ copied-outside s t at n from (first + i) (inr (omega (arith, above)))
     ]
+
+-- what begins like a set from `cut` on does so from `first` on, if the two are equal or both past
+-- the capacity
+pub like_at_most : (s : PlainSet) (first cut top n : ℕ) (v : PlainSet) →
+    ((i : ℕ) → s.capacity ≤ i → s.has i ≡ false) → s.capacity ≤ top →
+    (cut ≡ first) ⊎ ((top ≤ cut) × (top ≤ first)) → BeginsLike v s cut n → BeginsLike v s first n
+like_at_most s first cut top n v past high where_is same i h =
+    same i h ∙ elim where_is [
+      | inl e ↦ ap (λ k. s.has (k + i)) e
+      | inr far ↦ past (cut + i) (omega (arith, high, far.0))
+          ∙ sym (past (first + i) (omega (arith, high, far.1)))
+    ]
+
+-- a number that has the bits of a range begins like it
+pub like_number : (s : PlainSet) (first n w d : ℕ) → n ≤ w → HasBitsOf s first n d →
+    BeginsLike (bit_set w d) s first n
+like_number s first n w d small bits i h = bit_has-at w d i (omega (arith, h, small)) ∙ bits i h
 
 -- a set of which one word has got the bits of a number has them from an index of that word on
 module _ (m : Bool) (w k first from count p r : ℕ) (s t u : PlainSet) (word : 0 < w)

@@ -1,5 +1,5 @@
 -- Ranges of a set as numbers, gathered word by word.
-use Rattle.std.proofs.Common.{◌≡◌, ℕ, zero, suc, ◌+◌, ◌-◌, ◌*◌, ◌/◌, ◌%◌, ◌^◌, ◌<◌, ◌≤◌, ◌⊎◌, Bool, true, false, cond, ◌||◌, ◌==◌, inl, inr, refl, sym, ap, ◌∙◌, arith, bit_and, bit_or}
+use Rattle.std.proofs.Common.{◌≡◌, ℕ, zero, suc, ◌+◌, ◌-◌, ◌*◌, ◌/◌, ◌%◌, ◌^◌, ◌<◌, ◌≤◌, ◌⊎◌, Bool, true, false, cond, ◌&&◌, ◌==◌, inl, inr, refl, sym, ap, ◌∙◌, arith, bit_and, bit_or}
 use Rattle.std.specs.Int.{bit_at}
 use Rattle.std.proofs.Math.Path.{fun_ext}
 use Rattle.std.proofs.Math.Nat.{mod-eq_of_lt}
@@ -10,7 +10,7 @@ use Rattle.std.proofs.lemmas.Nat.Bits.{bit_at-lt, bit_at_above, bit_at_cat_high,
 use Rattle.bittle.specs.BitPatterns.{bit_has, bit_set}
 use Rattle.bittle.specs.Orders.{mirror, read_in}
 use Rattle.bittle.specs.PlainSet.{PlainSet, is_in_span, span_set}
-use Rattle.bittle.specs.SetOperations.{combination_of, first_alone}
+use Rattle.bittle.specs.SetOperations.{combination_of, just_one}
 use Rattle.bittle.specs.Words.{word_of}
 use Rattle.bittle_bits.specs.LawProofs.{bit_has-past}
 use Rattle.bittle_bits.proofs.BitSets.{bit_has-at}
@@ -22,7 +22,6 @@ use Rattle.bittle_bits.proofs.WordOperations.{word_combined}
 use Rattle.bittle_bits.proofs.Words.{digit_at}
 use Rattle.bittle_ext.specs.Numbers.{number_in, HasBitsOf, has_copied}
 use Rattle.bittle_ext.specs.Rotations.{IsWindow}
-use Rattle.bittle_ext.proofs.ReversedBits.{bit_at_up_high, bit_at_up_low}
 use Rattle.bittle_ext.proofs.Windows.{bit_at_masked, bit_at_shifted}
 
 -- a number below 2 ^ n whose n bits are those of a range of a set is the number of that range
@@ -176,79 +175,66 @@ bits_past s first n end d past ends fits bits i h =
       ]
     ]
 
--- the bits from `cut` on are those from `first` on, if the two are equal or both past the capacity
-pub bits_at_most : (s : PlainSet) (first cut top n d : ℕ) →
-    ((i : ℕ) → s.capacity ≤ i → s.has i ≡ false) → s.capacity ≤ top →
-    (cut ≡ first) ⊎ ((top ≤ cut) × (top ≤ first)) → HasBitsOf s cut n d → HasBitsOf s first n d
-bits_at_most s first cut top n d past high where_is bits i h =
-    bits i h ∙ elim where_is [
-      | inl e ↦ ap (λ k. s.has (k + i)) e
-      | inr far ↦ past (cut + i) (omega (arith, high, far.0))
-          ∙ sym (past (first + i) (omega (arith, high, far.1)))
-    ]
+-- a word that is cut to its first `end` bits
+pub cut_to_first : (m : Bool) (w end p mask r i : ℕ) → 0 < w → i < w →
+    read_in m w (bit_set w mask) ≡ span_set w 0 end →
+    bit_set w r ≡ combination_of ◌&&◌ (bit_set w p) (bit_set w mask) →
+    (read_in m w (bit_set w r)).has i ≡ ((read_in m w (bit_set w p)).has i && is_in_span 0 end i)
+cut_to_first m w end p mask r i word h span is =
+    ap (λ u. u.has i) (word_combined ◌&&◌ w p mask r m word is)
+    ∙ combination-below ◌&&◌ (read_in m w (bit_set w p)) (read_in m w (bit_set w mask)) i h h
+    ∙ ap (λ u. (read_in m w (bit_set w p)).has i && u.has i) span
 
--- a number of `count` bits, shifted up to index `from` of a word, fits in the word
-pub shifted_fits : (w from count number : ℕ) → from + count ≤ w → w ≤ 128 → number < 2 ^ count →
-    (number * 2 ^ from < 2 ^ w) × (number * 2 ^ from % 2 ^ 128 ≡ number * 2 ^ from)
-shifted_fits w from count number within small fits =
-    let some = mul-add-lt number (2 ^ from) 0 (2 ^ count) fits (pow_pos from) in
-    let top : 2 ^ (count + from) ≤ 2 ^ w = pow_mono (omega (arith, within)) in
-    let all : 2 ^ w ≤ 2 ^ 128 = pow_mono small in
-    let low : number * 2 ^ from < 2 ^ w = omega (arith, some, pow-add 2 count from, top) in
-    (low, mod-eq_of_lt (omega (arith, low, all)))
-
--- a word of which some bits are cleared and then set as those of a number
-module _ (m : Bool) (w from count number p mask rest bits r : ℕ) (word : 0 < w)
-    (within : from + count ≤ w) (small : w ≤ 128) (fits : number < 2 ^ count)
-    (placed : read_in m w (bit_set w bits) ≡ bit_set w (number * 2 ^ from))
+-- a word of which some bits are replaced by the first bits of another word
+module _ (m : Bool) (w from count p q mask moved other change r : ℕ) (t : PlainSet) (word : 0 < w)
+    (within : from + count ≤ w)
+    (window : IsWindow w (w - from) t (read_in m w (bit_set w q)) (read_in m w (bit_set w moved)))
     (span : read_in m w (bit_set w mask) ≡ span_set w from (from + count))
-    (cleared : bit_set w rest ≡ combination_of first_alone (bit_set w p) (bit_set w mask))
-    (is : bit_set w r ≡ combination_of ◌||◌ (bit_set w rest) (bit_set w bits)) where
-  abbrev was : ℕ → Bool
-  was i = (read_in m w (bit_set w p)).has i
+    (differs : bit_set w other ≡ combination_of just_one (bit_set w p) (bit_set w moved))
+    (cut : bit_set w change ≡ combination_of ◌&&◌ (bit_set w other) (bit_set w mask))
+    (is : bit_set w r ≡ combination_of just_one (bit_set w p) (bit_set w change)) where
+  abbrev at_place : ℕ → ℕ → Bool
+  at_place d i = (read_in m w (bit_set w d)).has i
 
-  rest_at : (i : ℕ) → i < w →
-      (read_in m w (bit_set w rest)).has i ≡ first_alone (was i) (is_in_span from (from + count) i)
-  rest_at i h =
-      ap (λ u. u.has i) (word_combined first_alone w p mask rest m word cleared)
-      ∙ combination-below first_alone (read_in m w (bit_set w p)) (read_in m w (bit_set w mask)) i h h
-      ∙ ap (λ u. first_alone (was i) (u.has i)) span
+  combined : (f : Bool → Bool → Bool) (a b c : ℕ) →
+      bit_set w c ≡ combination_of f (bit_set w a) (bit_set w b) → (i : ℕ) → i < w →
+      at_place c i ≡ f (at_place a i) (at_place b i)
+  combined f a b c e i h =
+      ap (λ u. u.has i) (word_combined f w a b c m word e)
+      ∙ combination-below f (read_in m w (bit_set w a)) (read_in m w (bit_set w b)) i h h
 
-  new_at : (i : ℕ) → i < w →
-      (read_in m w (bit_set w bits)).has i ≡ (bit_at (number * 2 ^ from) i == 1)
-  new_at i h = ap (λ u. u.has i) placed ∙ bit_has-at w (number * 2 ^ from) i h
+  change_at : (i : ℕ) → i < w → at_place change i
+      ≡ (just_one (at_place p i) (at_place moved i) && is_in_span from (from + count) i)
+  change_at i h = combined ◌&&◌ other mask change cut i h
+      ∙ (λ j. combined just_one p moved other differs i h j && (span j).has i)
 
-  kept : (b : Bool) → first_alone b false || false ≡ b
-  kept true = refl
-  kept false = refl
+  twice : (a b : Bool) → just_one a (just_one a b && true) ≡ b
+  twice true true = refl
+  twice true false = refl
+  twice false true = refl
+  twice false false = refl
 
-  decided : (b c : Bool) → first_alone b true || c ≡ c
-  decided true c = refl
-  decided false c = refl
+  kept : (a b : Bool) → just_one a (just_one a b && false) ≡ a
+  kept true true = refl
+  kept true false = refl
+  kept false true = refl
+  kept false false = refl
 
-  pub numbered : (i : ℕ) → i < w → (read_in m w (bit_set w r)).has i
-      ≡ has_copied (read_in m w (bit_set w p)) from count (bit_set 128 number) 0 i
+  pub replaced_bits : (i : ℕ) → i < w → at_place r i
+      ≡ has_copied (read_in m w (bit_set w p)) from count (read_in m w (bit_set w q)) 0 i
   unfolding has_copied
-  numbered i h =
-      ap (λ u. u.has i) (word_combined ◌||◌ w rest bits r m word is)
-      ∙ combination-below ◌||◌ (read_in m w (bit_set w rest)) (read_in m w (bit_set w bits)) i h h
-      ∙ (λ j. rest_at i h j || new_at i h j)
+  replaced_bits i h =
+      combined just_one p change r is i h ∙ ap (just_one (at_place p i)) (change_at i h)
       ∙ elim (cases_lt i from) [
-        | inl l ↦
-            rw (is_in_span-outside from (from + count) i (inl l), bit_at_up_low number from i l)
-            (kept (was i))
+        | inl l ↦ rw (is_in_span-outside from (from + count) i (inl l))
+            (kept (at_place p i) (at_place moved i))
         | inr g ↦ elim (cases_lt i (from + count)) [
           | inl l ↦
-              let at : i - from ≡ i - from + 0 = omega arith in
-              rw (is_in_span-inside from (from + count) i g l, bit_at_up_high number from i g)
-              (decided (was i) (bit_at number (i - from) == 1)
-              ∙ sym (bit_has-at 128 number (i - from) (omega (arith, h, small)))
-              ∙ ap (bit_has 128 number) at)
-          | inr far ↦
-              rw (
-                is_in_span-outside from (from + count) i (inr far),
-                bit_at_up_high number from i g,
-                bit_at_above number count (i - from) fits (omega (arith, far)),
-              ) (kept (was i))
+              let e : i + (w - from) - w ≡ i - from + 0 = omega (arith, within, g) in
+              rw (is_in_span-inside from (from + count) i g l)
+              (twice (at_place p i) (at_place moved i)
+              ∙ window.second i h (omega (arith, within, g)) ∙ ap (at_place q) e)
+          | inr far ↦ rw (is_in_span-outside from (from + count) i (inr far))
+              (kept (at_place p i) (at_place moved i))
         ]
       ]

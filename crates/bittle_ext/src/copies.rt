@@ -7,10 +7,10 @@ ghost use Rattle.bittle.specs.Values.{set_in, ShapeFits};
 ghost use Rattle.bittle_ext.specs.Numbers.{HasBitsOf, with_copied};
 
 use crate::capacities::capacity_of;
-use crate::numbers::{low_bits, low_bits_of, number_of, width_of, with_number};
+use crate::numbers::{low_bits, low_bits_of, number_of, width_of, with_first_bits, word_of};
 use crate::rotations::window;
 use bittle::{Bits, BitsMut, Endian};
-use bittle_bits::extension::Word;
+use bittle_bits::extension::{Conjunction, Operation, Word, are_alike, range};
 
 /// Returns how many bits each word of a set has: 128 at most.
 #[inline]
@@ -86,24 +86,71 @@ pub fn number_from<B: Bits, E: Endian>(set: &B, first: u32, count: u32) -> u128
     number
 }
 
-/// Writes the lowest `count` bits of a number to `count` indexes of one word, from `first` on.
+/// Returns a word whose first `count` bits are the bits of the set at `count` indexes from `first`
+/// on. Bits at or past the capacity count as unset. The other bits of the result may be set or
+/// unset.
 #[inline]
-fn put_number<A: BitsMut, E: Endian>(set: &mut A, first: u32, count: u32, number: u128)
+fn word_at<B: Bits, E: Endian>(set: &B, first: u32, count: u32) -> B::LeafWord
+    requires fits { ShapeFits B.Shape set.now }
+    requires within { count ≤ B.width }
+    ensures { (i : ℕ) → i < count
+        → (read_in E.mirrored B.width (bit_set B.width (B.LeafWord.pattern result))).has i
+        ≡ (set_in B.Shape E.Endian set.now).has (first + i) }
+{
+    let end = count.min(capacity_of::<B, E>(set).saturating_sub(first));
+    if end == 0 {
+        return <B::LeafWord as Word>::zero();
+    }
+    let word = word_near::<B, E>(set, first, end);
+    if end == count {
+        return word;
+    }
+    Conjunction::on_words::<B::LeafWord>(word, range::<B::LeafWord, E>(0, end))
+}
+
+/// Returns a word of the type of `A`'s words, in the order `E`. Its first `count` bits are the bits
+/// of `other`, which is read in the order `F`, at `count` indexes from `first` on. Bits at or past
+/// the capacity of `other` count as unset. The other bits of the result may be set or unset.
+///
+/// If the words of `A` and of `other` are alike, no bits are reversed.
+#[inline]
+fn word_for<A: Bits, B: Bits, E: Endian, F: Endian>(
+    other: &B,
+    first: u32,
+    count: u32,
+) -> A::LeafWord
+    requires fits { ShapeFits B.Shape other.now }
+    requires within { count ≤ A.width }
+    requires small { count ≤ 128 }
+    ensures { (i : ℕ) → i < count
+        → (read_in E.mirrored A.width (bit_set A.width (A.LeafWord.pattern result))).has i
+        ≡ (set_in B.Shape F.Endian other.now).has (first + i) }
+{
+    if are_alike::<A, B, E, F>() {
+        let word = word_at::<B, F>(other, first, count);
+        return <A::LeafWord as Word>::from_bits(word.to_bits());
+    }
+    word_of::<A::LeafWord, E>(number_from::<B, F>(other, first, count))
+}
+
+/// Writes the first `count` bits of a word to `count` indexes of one word of the set, from `first`
+/// on.
+#[inline]
+fn put_word<A: BitsMut, E: Endian>(set: &mut A, first: u32, count: u32, word: A::LeafWord)
     requires fits { ShapeFits A.Shape set.old }
     requires some { 0 < count }
     requires word { first % A.width + count ≤ A.width }
     requires within { first + count ≤ (A.big set.old).capacity }
-    requires number { number < 2 ^ count }
     ensures set { set_in A.Shape E.Endian set.new ≡ with_copied (set_in A.Shape E.Endian set.old)
-        first count (bit_set 128 number) 0 }
+        first count (read_in E.mirrored A.width (bit_set A.width (A.LeafWord.pattern word))) 0 }
     ensures stays { A.loan set.old ≡ A.loan set.new }
 {
     let width = width_of_words::<A>();
     let k = (first / width) as usize;
-    let word = set.nth_leaf_word(k);
+    let old = set.nth_leaf_word(k);
     set.set_nth_leaf_word(
         k,
-        with_number::<A::LeafWord, E>(word, first % width, count, number),
+        with_first_bits::<A::LeafWord, E>(old, first % width, count, word),
     );
 }
 
@@ -133,7 +180,8 @@ pub fn put_value<A: BitsMut, E: Endian>(set: &mut A, first: u32, count: u32, val
     while done < count {
         let at = first + done;
         let more = (width - at % width).min(count - done);
-        put_number::<A, E>(set, at, more, part_of(value, done, more));
+        let word = word_of::<A::LeafWord, E>(part_of(value, done, more));
+        put_word::<A, E>(set, at, more, word);
         done += more;
     }
 }
@@ -160,8 +208,8 @@ pub fn copy_range<A: BitsMut, B: Bits, E: Endian, F: Endian>(
     while done < count {
         let index = at + done;
         let more = (width - index % width).min(count - done);
-        let number = number_from::<B, F>(other, from.saturating_add(done), more);
-        put_number::<A, E>(set, index, more, number);
+        let word = word_for::<A, B, E, F>(other, from.saturating_add(done), more);
+        put_word::<A, E>(set, index, more, word);
         done += more;
     }
 }
@@ -182,8 +230,8 @@ fn copy_down<A: BitsMut, E: Endian>(set: &mut A, at: u32, from: u32, count: u32)
     while done < count {
         let index = at + done;
         let more = (width - index % width).min(count - done);
-        let number = number_from::<A, E>(set, from.saturating_add(done), more);
-        put_number::<A, E>(set, index, more, number);
+        let word = word_at::<A, E>(set, from.saturating_add(done), more);
+        put_word::<A, E>(set, index, more, word);
         done += more;
     }
 }
@@ -204,8 +252,8 @@ fn copy_up<A: BitsMut, E: Endian>(set: &mut A, at: u32, from: u32, count: u32)
     while 0 < rest {
         let less = ((at + rest - 1) % width + 1).min(rest);
         rest -= less;
-        let number = number_from::<A, E>(set, from + rest, less);
-        put_number::<A, E>(set, at + rest, less, number);
+        let word = word_at::<A, E>(set, from + rest, less);
+        put_word::<A, E>(set, at + rest, less, word);
     }
 }
 

@@ -6,9 +6,9 @@ ghost use Rattle.bittle.specs.BitPatterns.{bit_set};
 ghost use Rattle.bittle.specs.Orders.{read_in};
 ghost use Rattle.bittle_ext.specs.Numbers.{has_copied};
 
-use crate::rotations::all_bits;
+use crate::rotations::{all_bits, window_up_to};
 use bittle::Endian;
-use bittle_bits::extension::{Difference, Operation, Union, Word, range};
+use bittle_bits::extension::{Conjunction, Operation, SymmetricDifference, Word, range};
 
 /// Returns a number in which the bits `i` and `i + by` have changed places, for each `i` whose bit
 /// is set in the mask. No other bit of the result is set.
@@ -95,7 +95,7 @@ pub fn turned_back<W: Word, E: Endian>(word: W) -> W
 /// Converts a number to a word. For each `i`, the bit of the word at index `i`, in the order `E`,
 /// is the number's bit of weight `2 ^ i`.
 #[inline]
-fn word_of<W: Word, E: Endian>(number: u128) -> W
+pub fn word_of<W: Word, E: Endian>(number: u128) -> W
     requires { number < 2 ^ W.width }
     ensures { read_in E.mirrored W.width (bit_set W.width (W.pattern result))
         ≡ bit_set W.width number }
@@ -125,22 +125,26 @@ pub fn low_bits_of<W: Word>(number: u128, count: u32) -> u128
     number & all_bits::<W>() >> ((width - count) % width)
 }
 
-/// Returns `word` with its `count` bits from the index `from` on replaced by the lowest `count`
-/// bits of `number`, in the order `E`. If `count` is the width of the word, no mask is made.
+/// Returns `word` with its `count` bits from the index `from` on replaced by the first `count` bits
+/// of `by`. Both words are read in the order `E`. If `count` is the width of the word, no mask is
+/// made.
+///
+/// Inside the mask, the old bits are combined twice by an exclusive or, so they drop out. Outside
+/// it, nothing is combined with them.
 #[inline]
-pub fn with_number<W: Word, E: Endian>(word: W, from: u32, count: u32, number: u128) -> W
+pub fn with_first_bits<W: Word, E: Endian>(word: W, from: u32, count: u32, by: W) -> W
     requires some { 0 < count }
     requires within { from + count ≤ W.width }
-    requires fits { number < 2 ^ count }
     ensures { (i : ℕ) → i < W.width
         → (read_in E.mirrored W.width (bit_set W.width (W.pattern result))).has i
         ≡ has_copied (read_in E.mirrored W.width (bit_set W.width (W.pattern word))) from count
-        (bit_set 128 number) 0 i }
+        (read_in E.mirrored W.width (bit_set W.width (W.pattern by))) 0 i }
 {
     if count == width_of::<W>() {
-        return word_of::<W, E>(number);
+        return by;
     }
-    let bits = word_of::<W, E>(number << from);
-    let rest = Difference::on_words::<W>(word, range::<W, E>(from, from + count));
-    Union::on_words::<W>(rest, bits)
+    let moved = window_up_to::<W, E>(W::zero(), by, from);
+    let other = SymmetricDifference::on_words::<W>(word, moved);
+    let change = Conjunction::on_words::<W>(other, range::<W, E>(from, from + count));
+    SymmetricDifference::on_words::<W>(word, change)
 }
