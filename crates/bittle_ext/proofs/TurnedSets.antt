@@ -1,23 +1,20 @@
 -- Sets that are rotated in place: first their words, and then their bits.
-use Rattle.std.proofs.Common.{◌≡◌, ◌≢◌, ℕ, ◌+◌, ◌-◌, ◌*◌, ◌/◌, ◌%◌, ◌<◌, ◌≤◌, ◌⊎◌, Bool, false, cond, nat_lt, ◌==◌, inl, inr, refl, sym, ap, ◌∙◌, arith}
+use Rattle.std.proofs.Common.{◌≡◌, ◌≢◌, ℕ, ◌+◌, ◌-◌, ◌*◌, ◌/◌, ◌%◌, ◌<◌, ◌≤◌, ◌⊎◌, Bool, false, cond, nat_lt, nat_le, ◌==◌, inl, inr, refl, sym, ap, ◌∙◌, arith}
 use Rattle.std.proofs.Math.Path.{fun_ext}
 use Rattle.std.proofs.Math.Nat.{add-mod-mod, mod-eq_of_lt, mul-le-mul_right, lt_of_mul-lt-mul_right}
 use Rattle.std.proofs.lemmas.Nat.{div-add-mod', mod_below}
-use Rattle.std.proofs.lemmas.Bool.{cases_eq, cases_lt, eq-eqb, ne_eqb, lt-ltb, le-ltb}
+use Rattle.std.proofs.lemmas.Bool.{cases_eq, cases_lt, eq-eqb, ne_eqb, lt-ltb, le-ltb, lt-leb, le-leb}
 use Rattle.bittle.specs.BitPatterns.{bit_set}
 use Rattle.bittle.specs.Orders.{read_in}
 use Rattle.bittle.specs.PlainSet.{PlainSet, contains, is_in_span}
 use Rattle.bittle.specs.Words.{word_of, ReplacesWord}
-use Rattle.bittle_bits.proofs.BitSets.{bit_has-at}
 use Rattle.bittle_bits.proofs.PlainSets.{members-past, plain_set}
 use Rattle.bittle_bits.proofs.Spans.{is_in_span-inside, is_in_span-outside}
 use Rattle.bittle_bits.proofs.Words.{digit_at, same_word}
 use Rattle.bittle.proofs.CallerSets.{contains_within}
-use Rattle.bittle_ext.specs.Numbers.{HasBitsOf, with_copied}
-use Rattle.bittle_ext.specs.Rotations.{exchanged, has_rotated, HasWordsOf, mirrored_within, rotated_down, shifted_down, shifted_up, IsDistance, IsWindow}
-use Rattle.bittle_ext.proofs.CopiedRanges.{copied-inside, copied-outside}
-use Rattle.bittle_ext.proofs.RotatedSets.{contains_as, contains_past, down-inside, down-past, rotated-below, rotated-past, rotated_from, turned_word, up-inside, up-past, window_from, word_within}
-use Rattle.bittle_ext.proofs.WordsReplaced.{adds_upward, all_replaced, more_replaced, none_replaced}
+use Rattle.bittle_ext.specs.Rotations.{exchanged, has_rotated, has_shifted_down, HasWordsOf, mirrored_within, rotated_down, shifted_down, shifted_up, IsDistance, IsWindow, IsWordFrom}
+use Rattle.bittle_ext.proofs.RotatedSets.{contains_as, contains_past, down-inside, rotated-below, rotated-past, rotated_from, turned_word, up-inside, up-past, window_from, word_within}
+use Rattle.bittle_ext.proofs.WordsReplaced.{adds_upward, all_replaced, more_replaced, none_replaced, replaced_where, rest_alike, AddsWord}
 
 -- which number stands where i and j have changed places
 exchanged-second : (i j : ℕ) → exchanged i j j ≡ i
@@ -246,55 +243,46 @@ thrice_reversed w by words s r q t word whole fewer past one two three =
     ] in
     λ j. plain_set (size j) (λ i. each i j)
 
--- a shift down, with the bits that passed index 0 copied to the end, is a rotation
-pub ends_put : (s : PlainSet) (by d : ℕ) → by ≤ 128 → by < s.capacity → HasBitsOf s 0 by d →
-    with_copied (shifted_down s by) (s.capacity - by) by (bit_set 128 d) 0 ≡ rotated_down s by
-ends_put s by d small inside bits =
-    let u = shifted_down s by in
-    let v = bit_set 128 d in
-    let at = s.capacity - by in
-    ap (plain_set s.capacity) (fun_ext λ i. elim (cases_lt i at) [
-      | inl l ↦ copied-outside u v at by 0 i (inl l) ∙ down-inside s by i (omega (arith, l))
-          ∙ sym (rotated-below s by i (omega (arith, l))
-          ∙ contains_within s (i + by) (omega (arith, l)))
-      | inr g ↦ elim (cases_lt i s.capacity) [
-        | inl l ↦
-            let n = i - at in
-            let low : n < by = omega (arith, l, g, inside) in
-            let zero_more : i - at + 0 ≡ n = omega arith in
-            let zero_less : 0 + n ≡ n = omega arith in
-            copied-inside u v at by 0 i g (omega (arith, l, inside)) ∙ ap v.has zero_more
-            ∙ bit_has-at 128 d n (omega (arith, low, small)) ∙ bits n low
-            ∙ ap s.has zero_less
-            ∙ sym (rotated-below s by i l ∙ contains_past s (i + by) n (omega (arith, g, inside))
-            (omega (arith, l)))
-        | inr h ↦ copied-outside u v at by 0 i (inr (omega (arith, h, inside)))
-            ∙ down-past s by i (omega (arith, h)) ∙ sym (rotated-past s by i h)
-      ]
+-- a rotation is a shift down in which the numbers from n on are as in the rotated set, if all bits
+-- that passed index 0 come to n or above
+pub end_turned : (s : PlainSet) (by n : ℕ) → n + by ≤ s.capacity →
+    replaced_where (λ i. nat_le n i) (has_rotated s by) (shifted_down s by) ≡ rotated_down s by
+end_turned s by n h = ap (plain_set s.capacity) (fun_ext λ i. elim (cases_lt i n) [
+  | inl l ↦ ap (λ b. cond b (has_rotated s by i) (has_shifted_down s by i)) (lt-leb n i l)
+      ∙ down-inside s by i (omega (arith, l, h))
+      ∙ sym (rotated-below s by i (omega (arith, l, h))
+      ∙ contains_within s (i + by) (omega (arith, l, h)))
+  | inr g ↦ ap (λ b. cond b (has_rotated s by i) (has_shifted_down s by i)) (le-leb n i g)
+])
+
+-- a rotation is a shift up in which the numbers below n are as in the rotated set, if all bits that
+-- passed the last index come below n
+pub start_turned : (s : PlainSet) (by up n : ℕ) → by + up ≡ s.capacity → up ≤ n →
+    replaced_where (λ i. nat_lt i n) (has_rotated s by) (shifted_up s up) ≡ rotated_down s by
+start_turned s by up n parts h =
+    rest_alike n (has_rotated s by) (shifted_up s up) (λ i g. elim (cases_lt i s.capacity) [
+      | inl l ↦ up-inside s up i (omega (arith, g, h)) l
+          ∙ sym (rotated-below s by i l ∙ contains_past s (i + by) (i - up)
+          (omega (arith, g, h, parts)) (omega (arith, l)))
+      | inr o ↦ up-past s up i o ∙ sym (rotated-past s by i o)
     ])
 
--- a shift up, with the bits that passed the end copied to the start, is a rotation
-pub starts_put : (s : PlainSet) (by up d : ℕ) → up ≤ 128 → by + up ≡ s.capacity → 0 < up →
-    HasBitsOf s by up d →
-    with_copied (shifted_up s up) 0 up (bit_set 128 d) 0 ≡ rotated_down s by
-starts_put s by up d small parts some bits =
-    let u = shifted_up s up in
-    let v = bit_set 128 d in
-    ap (plain_set s.capacity) (fun_ext λ i. elim (cases_lt i up) [
-      | inl l ↦
-          let same : i - 0 + 0 ≡ i = omega arith in
-          let on : by + i ≡ i + by = omega arith in
-          copied-inside u v 0 up 0 i (omega arith) (omega (arith, l)) ∙ ap v.has same
-          ∙ bit_has-at 128 d i (omega (arith, l, small)) ∙ bits i l ∙ ap s.has on
-          ∙ sym (rotated-below s by i (omega (arith, l, parts))
-          ∙ contains_within s (i + by) (omega (arith, l, parts)))
-      | inr g ↦ copied-outside u v 0 up 0 i (inr (omega (arith, g))) ∙ elim (cases_lt i s.capacity) [
-        | inl l ↦ up-inside s up i g l
-            ∙ sym (rotated-below s by i l ∙ contains_past s (i + by) (i - up)
-            (omega (arith, g, parts)) (omega (arith, l)))
-        | inr h ↦ up-past s up i h ∙ sym (rotated-past s by i h)
-      ]
-    ])
+-- one more word is written as it is in the rotated set
+pub more_turned : (m : Bool) (w words skipped from by k at r : ℕ) (done more : ℕ → Bool)
+    (s base now after : PlainSet) → 0 < w → (n : ℕ) × (now.capacity ≡ n * w) →
+    ((i : ℕ) → now.capacity ≤ i → now.has i ≡ false) →
+    ((i : ℕ) → after.capacity ≤ i → after.has i ≡ false) →
+    IsDistance w s.capacity by words skipped from → by < s.capacity → k < words →
+    (at ≡ k + skipped) ⊎ (at + words ≡ k + skipped) →
+    IsWordFrom w s (at * w + from) (read_in m w (bit_set w r)) → AddsWord w k done more →
+    ReplacesWord w now k (bit_set w r) after →
+    read_in m w now ≡ replaced_where done (has_rotated s by) base →
+    read_in m w after ≡ replaced_where more (has_rotated s by) base
+more_turned m w words skipped from by k at r done more s base now after word whole past also far
+    inside low where_is here adds replaced before =
+    more_replaced m w k r done more (has_rotated s by) base now after word whole past also adds
+    replaced (turned_word m w s.capacity words skipped from by k at r s
+    (rw (← mod-eq_of_lt inside) at far) refl low where_is here) before
 
 -- a set of one word is rotated if its word becomes a window over that word twice
 pub word_turned : (m : Bool) (w by p r : ℕ) (s t : PlainSet) → 0 < w → s.capacity ≡ w → by < w →

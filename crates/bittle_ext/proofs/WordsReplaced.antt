@@ -101,6 +101,23 @@ adds_downward w k word = record {
   ];
 }
 
+-- numbers below n that g decides
+module _ (n : ℕ) (g : ℕ → Bool) (s : PlainSet) where
+  -- if g decides these as s has them, the set is as it was
+  pub start_alike : ((i : ℕ) → i < n → s.has i ≡ g i) → s ≡ replaced_where (λ i. nat_lt i n) g s
+  start_alike same = ap (plain_set s.capacity) (fun_ext λ i. elim (cases_lt i n) [
+    | inl l ↦ same i l ∙ sym (ap (λ b. cond b (g i) (s.has i)) (lt-ltb i n l))
+    | inr h ↦ sym (ap (λ b. cond b (g i) (s.has i)) (le-ltb i n h))
+  ])
+
+  -- if s has the other numbers as g decides them, it is the set of those that pass g
+  pub rest_alike : ((i : ℕ) → n ≤ i → s.has i ≡ g i) →
+      replaced_where (λ i. nat_lt i n) g s ≡ plain_set s.capacity g
+  rest_alike same = ap (plain_set s.capacity) (fun_ext λ i. elim (cases_lt i n) [
+    | inl l ↦ ap (λ b. cond b (g i) (s.has i)) (lt-ltb i n l)
+    | inr h ↦ ap (λ b. cond b (g i) (s.has i)) (le-ltb i n h) ∙ same i h
+  ])
+
 -- a test of numbers, and a set, of which nothing from the capacity on passes or is a member
 module _ (done g : ℕ → Bool) (s : PlainSet) (past : (i : ℕ) → s.capacity ≤ i → s.has i ≡ false)
     (ends : (i : ℕ) → s.capacity ≤ i → g i ≡ false) where

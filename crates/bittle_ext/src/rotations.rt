@@ -104,7 +104,7 @@ pub fn distance<B: Bits>(set: &B, by: u32) -> (usize, usize, u32)
 /// Returns a word that is cut from two words of a set, which is read in the order `E`. It has the
 /// bits of word `at` from the index `from` on, and after them the first `from` bits of word `next`.
 #[inline]
-fn word_from<B: Bits, E: Endian>(set: &B, at: usize, next: usize, from: u32) -> B::LeafWord
+pub fn word_from<B: Bits, E: Endian>(set: &B, at: usize, next: usize, from: u32) -> B::LeafWord
     requires fits { ShapeFits B.Shape set.now }
     requires next { IsNextWord B.width (B.big set.now).capacity at next }
     requires within { from < B.width }

@@ -1,6 +1,6 @@
-//! Rotates all bits of a set in place. If a move down or up takes at most 128 bits past an end,
-//! these bits are saved in a `u128` while the other bits move. Else whole words are rotated first,
-//! by three reversals.
+//! Rotates all bits of a set in place. If at most as many bits pass an end as two words have, the
+//! one or two words that they come to are computed first, and then a shift moves the other bits.
+//! Else whole words are rotated first, by three reversals.
 
 ghost use Rattle.std.specs.Prelude.{◌≡◌, ◌+◌, ◌*◌, ◌<◌, ◌≤◌};
 ghost use Rattle.bittle_ext.specs.Rotations.{exchanged, HasWordsOf, mirrored_within};
@@ -8,10 +8,9 @@ ghost use Rattle.bittle_ext.specs.Rotations.{rotated_down, rotated_up};
 ghost use Rattle.bittle.specs.Values.{set_in, ShapeFits};
 
 use crate::capacities::capacity_of;
-use crate::copies::{copy_range, number_from, width_of_words};
-use crate::rotations::{distance, window};
+use crate::rotations::{distance, window, word_from};
 use crate::shifts::{shift_down, shift_up};
-use bittle::{BigEndian, BitsMut, Endian};
+use bittle::{BitsMut, Endian};
 
 /// Exchanges two words.
 #[inline]
@@ -78,41 +77,64 @@ fn turn_word<B: BitsMut, E: Endian>(set: &mut B, by: u32)
     set.set_nth_leaf_word(0, window::<B::LeafWord, E>(word, word, by));
 }
 
-/// Moves each bit down by `by`, which is at most 128. A bit that passes index 0 goes on at the last
-/// index.
+/// Moves each bit down by `by`, where two words have more than `by` bits. A bit that passes index 0
+/// goes on at the last index.
+///
+/// In the result, one or two words at the end have bits that passed index 0. These words are
+/// computed before the shift, and written after it.
 #[inline(always)]
 fn turn_bits<B: BitsMut, E: Endian>(set: &mut B, by: u32)
     requires fits { ShapeFits B.Shape set.old }
-    requires part { by ≤ 128 }
+    requires part { by < B.width + B.width }
     requires within { by < (B.big set.old).capacity }
     ensures set { set_in B.Shape E.Endian set.new
         ≡ rotated_down (set_in B.Shape E.Endian set.old) by }
     ensures stays { B.loan set.old ≡ B.loan set.new }
 {
-    let end = capacity_of::<B, E>(set);
     if by == 0 {
         return;
     }
-    let first = number_from::<B, E>(set, 0, by);
-    shift_down::<B, E>(set, by);
-    copy_range::<B, u128, E, BigEndian>(set, end - by, &first, 0, by);
+    let (words, skipped, from) = distance::<B>(set, by);
+    let last = words - 1;
+    let wrapped = word_from::<B, E>(set, last, 0, from);
+    if skipped == 0 {
+        shift_down::<B, E>(set, by);
+        set.set_nth_leaf_word(last, wrapped);
+    } else {
+        let first = word_from::<B, E>(set, 0, 1, from);
+        shift_down::<B, E>(set, by);
+        set.set_nth_leaf_word(last, first);
+        set.set_nth_leaf_word(last - 1, wrapped);
+    }
 }
 
-/// Rotates the bits down by `by`. For this each bit moves up by `capacity - by`, which is at most
-/// 128. A bit that passes the last index goes on at 0.
+/// Rotates the bits down by `by`. For this each bit moves up by `capacity - by`, where two words
+/// have at least so many bits. A bit that passes the last index goes on at 0.
+///
+/// In the result, one or two words at the start have bits that passed the last index. These words
+/// are computed before the shift, and written after it.
 #[inline(always)]
 fn turn_bits_up<B: BitsMut, E: Endian>(set: &mut B, by: u32)
     requires fits { ShapeFits B.Shape set.old }
-    requires part { (B.big set.old).capacity ≤ by + 128 }
+    requires part { (B.big set.old).capacity ≤ by + B.width + B.width }
     requires within { by < (B.big set.old).capacity }
     ensures set { set_in B.Shape E.Endian set.new
         ≡ rotated_down (set_in B.Shape E.Endian set.old) by }
     ensures stays { B.loan set.old ≡ B.loan set.new }
 {
     let up = capacity_of::<B, E>(set) - by;
-    let last = number_from::<B, E>(set, by, up);
-    shift_up::<B, E>(set, up);
-    copy_range::<B, u128, E, BigEndian>(set, 0, &last, 0, up);
+    let (words, skipped, from) = distance::<B>(set, by);
+    let last = words - 1;
+    let wrapped = word_from::<B, E>(set, last, 0, from);
+    if skipped == last {
+        shift_up::<B, E>(set, up);
+        set.set_nth_leaf_word(0, wrapped);
+    } else {
+        let first = word_from::<B, E>(set, skipped, last, from);
+        shift_up::<B, E>(set, up);
+        set.set_nth_leaf_word(0, first);
+        set.set_nth_leaf_word(1, wrapped);
+    }
 }
 
 /// Moves each bit down by `by`, which is below the capacity. A bit that passes index 0 goes on at
@@ -125,19 +147,16 @@ fn turn_within<B: BitsMut, E: Endian>(set: &mut B, by: u32)
         ≡ rotated_down (set_in B.Shape E.Endian set.old) by }
     ensures stays { B.loan set.old ≡ B.loan set.new }
 {
-    // The contract of `width_of_words` says that the bits of a word fit in a `u128`.
-    let width = width_of_words::<B>();
-    let capacity = capacity_of::<B, E>(set);
-    if capacity == width {
+    let (words, skipped, from) = distance::<B>(set, by);
+    if words == 1 {
         turn_word::<B, E>(set, by);
-    } else if by <= 128 {
+    } else if skipped < 2 {
         turn_bits::<B, E>(set, by);
-    } else if capacity - by <= 128 {
+    } else if words - skipped <= 2 {
         turn_bits_up::<B, E>(set, by);
     } else {
-        let (words, skipped, rest) = distance::<B>(set, by);
         turn_words::<B, E>(set, skipped, words);
-        turn_bits::<B, E>(set, rest);
+        turn_bits::<B, E>(set, from);
     }
 }
 

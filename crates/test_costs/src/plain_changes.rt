@@ -135,10 +135,9 @@ fn shift<B: BitsOwned>(rt: &impl Abort, mut few: B, asked: &Asked)
 }
 
 // `rotated_up` and `rotated_down` make each new word from two words. `rotate_down` by 200 first
-// exchanges 11 pairs of words, which rotates the row by three words. Then it shifts all bits down
-// by 8, and the 8 bits that pass index 0 are copied to the last word. `rotate_up` by 65 shifts all
-// bits up once. The 65 bits that pass the end come from the last two words and are copied to the
-// first two.
+// exchanges 11 pairs of words, which rotates the row by three words. Then it makes the new last
+// word from two words, shifts all bits down by 8, and writes the last word. `rotate_up` by 65 makes
+// the first two words from two words each, shifts all bits up, and writes the first two words.
 fn rotate<B: BitsOwned>(rt: &impl Abort, mut few: B, asked: &Asked)
     requires { IsTrue B.indexable }
 {

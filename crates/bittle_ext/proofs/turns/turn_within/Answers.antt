@@ -4,10 +4,10 @@ use Rattle.bittle_ext.specs.Rotations.{rotated_down}
 use Rattle.bittle_ext.proofs.TurnedSets.{rotated_twice}
 use Rattle.bittle_ext.proofs.turns.turn_within.Goals as goal
 
-pub returns-else-capacity-by-le128-clause-set : goal.returns-else-capacity-by-le128-clause-set
-returns-else-capacity-by-le128-clause-set g c =
+pub returns-else-words-skipped-le2-clause-set : goal.returns-else-words-skipped-le2-clause-set
+returns-else-words-skipped-le2-clause-set g c =
     let s = set_in g.B.Shape g.E.Endian c.args.set.now in
     let rest = c.distance-words.result.2 in
-    c.turn_bits-else-capacity-by-le128.ensures.set ∙ ap (λ u. rotated_down u rest) c.turn_words.ensures.set
+    c.turn_bits-else-words-skipped-le2.ensures.set ∙ ap (λ u. rotated_down u rest) c.turn_words.ensures.set
     ∙ rotated_twice s (c.distance-words.result.1 * g.B.Shape.width) rest
     ∙ ap (rotated_down s) c.distance-words.ensures.parts
