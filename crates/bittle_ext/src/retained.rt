@@ -52,6 +52,10 @@ pub fn retain<B: BitsMut, E: Endian, F: FnMut(u32) -> bool>(bits: &mut B, mut ke
     let mut k = bits.pass_over::<Ones, Front>(0, words);
     while k < words {
         let word = bits.nth_leaf_word(k);
+        if word.is_zero() {
+            k = bits.pass_over::<Ones, Front>(k + 1, words);
+            continue;
+        }
         let start = k as u32 * width;
         let mut rest = turned::<B::LeafWord, E>(word);
         let mut kept = <B::LeafWord as Word>::zero();

@@ -1,10 +1,11 @@
 use Rattle.std.proofs.Common.{◌≡◌, ◌+◌, ◌*◌, ◌≤◌, true, false, false, inl, inr, length, refl, sym, ap, ◌∙◌, subst, arith}
 use Rattle.std.proofs.Math.Nat.{mul-le-mul_right}
-use Rattle.std.proofs.lemmas.Bool.{cases_lt}
+use Rattle.std.proofs.lemmas.Bool.{cases_lt, eqb-true}
 use Rattle.bittle.specs.BitPatterns.{bit_set}
 use Rattle.bittle.specs.PlainSet.{PlainSet, without_index}
 use Rattle.bittle.specs.Searches.{NoneIn}
 use Rattle.bittle.specs.Values.{set_in}
+use Rattle.bittle_bits.proofs.FirstOnes.{none_next}
 use Rattle.bittle_bits.proofs.OnesOrZeros.{passes_in_order}
 use Rattle.bittle_bits.proofs.PlainSets.{members-past}
 use Rattle.bittle_ext.specs.Calls.{IsCallableBelow}
@@ -48,6 +49,35 @@ nth_leaf_word-word-requires-clause-within g c =
       word_inside g.B.Shape.width c.loop-k.k _ _ _ v.whole v.retains.capacity c.loop-k-test.true,
       g.met.B.ReadWords.width_positive,
     )
+
+pub loop-k-preserved-then-is_zero : goal.loop-k-preserved-then-is_zero
+loop-k-preserved-then-is_zero g c =
+    let b = g.met.B.ReadWords in
+    let w = g.B.Shape.width in
+    let m = g.E.Endian.mirrored in
+    let k = c.loop-k.k in
+    let v = c.loop-k.invariant in
+    let now = c.loop-k.bits in
+    let e = c.pass_over-k-then-is_zero.ensures in
+    let passed = passes_in_order true true m w (k + 1) _ _ (g.B.Shape.big now) b.width_positive
+    (b.whole_words now) e in
+    let r = c.pass_over-k-then-is_zero.result in
+    let up : (k + 1) * w ≤ r * w = mul-le-mul_right w e.0 in
+    let low = mul-le-mul_right w e.1 in
+    let zero = eqb-true _ _ (sym c.is_zero.ensures.zero ∙ c.if-is_zero.true) in
+    let here = none_next m w (g.B.Shape.big now) b.width_positive (k * w) k _
+    c.nth_leaf_word-word.ensures (λ j lo hi. absurd (omega (arith, lo, hi))) (k + 1) refl zero in
+    record {
+      callable = v.callable;
+      within = e.1;
+      whole = v.whole;
+      retains = retains_on (goal.F-step g) _ _ _ _ _ v.retains (r * w) (omega (arith, up))
+          (omega (arith, low, v.whole)) (λ j lo hi. elim (cases_lt j ((k + 1) * w)) [
+            | inl l ↦ here j lo l
+            | inr g' ↦ passed.2 j g' hi
+          ]);
+      stays = v.stays;
+    }
 
 pub loop-index-init : goal.loop-index-init
 loop-index-init g c =
