@@ -1,21 +1,22 @@
 -- Sets after one bit was changed in its word.
-use Rattle.std.proofs.Common.{◌≡◌, ℕ, ◌+◌, ◌*◌, ◌/◌, ◌%◌, ◌<◌, ◌≤◌, Bool, true, false, cond, not, ◌&&◌, ◌||◌, ◌==◌, nat_lt, inl, inr, refl, sym, ap, ◌∙◌}
-use Rattle.std.proofs.Math.Bool.{or-false}
+use Rattle.std.proofs.Common.{◌≡◌, ℕ, ◌+◌, ◌*◌, ◌/◌, ◌%◌, ◌<◌, ◌≤◌, Bool, true, false, cond, not, ◌&&◌, ◌||◌, ◌==◌, nat_lt, inl, inr, refl, sym, ap, ◌∙◌, arith}
+use Rattle.std.proofs.Math.Bool.{and-true, or-false}
 use Rattle.std.proofs.Math.Path.{fun_ext}
 use Rattle.std.proofs.lemmas.Nat.{div-add-mod', mod_below}
-use Rattle.std.proofs.lemmas.Bool.{cases_eq, eq-eqb, ne_eqb}
+use Rattle.std.proofs.lemmas.Bool.{and_right, cases_eq, cases_lt, eq-eqb, ne_eqb, true≢false}
 use Rattle.bittle.specs.BitPatterns.{bit_set}
-use Rattle.bittle.specs.SetOperations.{combination_of}
+use Rattle.bittle.specs.SetOperations.{combination_of, first_alone}
 use Rattle.bittle.specs.Words.{word_of, ReplacesWord}
 use Rattle.bittle_bits.proofs.PlainSets.{plain_set, contains_in, has_with-in}
 use Rattle.bittle_bits.proofs.SetOperations.{combination-below}
 use Rattle.bittle_bits.proofs.WordOperations.{word_combined}
 use Rattle.bittle_bits.proofs.Words.{digit_at}
 use Rattle.bittle.specs.Orders.{read_in}
-use Rattle.bittle.specs.PlainSet.{PlainSet, contains, empty_set, has_with, has_without, with_index}
+use Rattle.bittle.specs.PlainSet.{PlainSet, contains, empty_set, has_with, has_without, with_index, IsLeastMember}
 use Rattle.bittle.proofs.CallerSets.{contains_within, with_index_within, without_index_within}
 use Rattle.bittle_ext.specs.Changes.{with_index_assigned}
 use Rattle.bittle_ext.proofs.RotatedSets.{contains_as}
+use Rattle.bittle_ext.proofs.RetainedWords.{IsPopped}
 use Rattle.bittle_ext.proofs.WordsReplaced.{place_in, in_word, in_others}
 
 -- a set has the answer at an index below the capacity, and its own members elsewhere
@@ -36,14 +37,34 @@ pub record HoldsIndex (m : Bool) (w k i d : ℕ) (s : PlainSet) : Type 0 where
   pub within : i < s.capacity
   pub ours : bit_set w d ≡ word_of w s k
 
--- r is the result of an operation on the word of index i and the word that has that index alone,
--- and t is the set with r in the place of that word
-pub record CombinesIndex (f : Bool → Bool → Bool) (m : Bool) (w k i d mask r : ℕ) (s t : PlainSet) :
+-- r is the word d in which the operation decides about the place of index i, and t is the set with r
+-- in the place of that word
+pub record CombinesIndex (f : Bool → Bool → Bool) (m : Bool) (w k i d r : ℕ) (s t : PlainSet) :
     Type 0 where
   pub keeps : (b : Bool) → f b false ≡ b
-  pub one : read_in m w (bit_set w mask) ≡ with_index (empty_set w) i
-  pub is : bit_set w r ≡ combination_of f (bit_set w d) (bit_set w mask)
+  pub is : (o : ℕ) → o < w → (read_in m w (bit_set w r)).has o
+      ≡ f ((read_in m w (bit_set w d)).has o) (o == i % w)
   pub replaced : ReplacesWord w s k (bit_set w r) t
+
+-- an operation on a word and the word that has index i alone decides about the place of i
+pub combined_alone : (f : Bool → Bool → Bool) (m : Bool) (w i d mask r : ℕ) → 0 < w →
+    read_in m w (bit_set w mask) ≡ with_index (empty_set w) i →
+    bit_set w r ≡ combination_of f (bit_set w d) (bit_set w mask) → (o : ℕ) → o < w →
+    (read_in m w (bit_set w r)).has o ≡ f ((read_in m w (bit_set w d)).has o) (o == i % w)
+combined_alone f m w i d mask r word one is o h =
+    ap (λ u. u.has o) (word_combined f w d mask r m word is)
+    ∙ combination-below f (read_in m w (bit_set w d)) (read_in m w (bit_set w mask)) o h h
+    ∙ ap (f ((read_in m w (bit_set w d)).has o)) (ap (λ u. u.has o) one
+    ∙ ap (λ p. p o) (has_with-in (empty_set w) w i refl word) ∙ or-false (o == i % w))
+
+-- a word without its least bit is that word with the place of this bit taken out
+pub taken_alone : (w j : ℕ) (p q : ℕ → Bool) → IsPopped w j p q → (o : ℕ) → o < w →
+    q o ≡ first_alone (p o) (o == j)
+taken_alone w j p q pop o h = elim (cases_eq o j) [
+  | inl e ↦ ap q e ∙ pop.gone ∙ sym (ap (λ b. p o && not b) (eq-eqb o j e)
+      ∙ and_right (p o) false refl)
+  | inr n ↦ pop.others o h n ∙ sym (ap (λ b. p o && not b) (ne_eqb o j n) ∙ and-true (p o))
+]
 
 module _ {m : Bool} {w k i d : ℕ} {s : PlainSet} (at : HoldsIndex m w k i d s) where
   -- the index, from the start of its word on
@@ -57,16 +78,29 @@ module _ {m : Bool} {w k i d : ℕ} {s : PlainSet} (at : HoldsIndex m w k i d s)
       ∙ digit_at m w k s d at.word at.ours (i % w) (mod_below i w at.word)
       ∙ ap (read_in m w s).has at_index ∙ sym (contains_within (read_in m w s) i at.within)
 
-  module _ {f : Bool → Bool → Bool} {mask r : ℕ} {t : PlainSet}
-      (new : CombinesIndex f m w k i d mask r s t) where
+  -- the index is the least member of the set
+  module _ (least : IsLeastMember (read_in m w s) i) where
+    pub has_place : (read_in m w (bit_set w d)).has (i % w) ≡ true
+    has_place = digit_at m w k s d at.word at.ours (i % w) (mod_below i w at.word)
+        ∙ ap (read_in m w s).has at_index ∙ least.is_member at.within
+
+    -- so its place is the least bit of the word
+    pub least_place : (j : ℕ) (q : ℕ → Bool) → IsPopped w j (read_in m w (bit_set w d)).has q →
+        j ≡ i % w
+    least_place j q pop = elim (cases_lt j (i % w)) [
+      | inl l ↦ absurd (true≢false (sym pop.is
+          ∙ digit_at m w k s d at.word at.ours j pop.inside
+          ∙ least.none_below (k * w + j) (omega (arith, l, at_index))))
+      | inr g ↦ elim (cases_lt (i % w) j) [
+        | inl l ↦ absurd (true≢false (sym has_place ∙ pop.least (i % w) l))
+        | inr g' ↦ omega (arith, g, g')
+      ]
+    ]
+
+  module _ {f : Bool → Bool → Bool} {r : ℕ} {t : PlainSet}
+      (new : CombinesIndex f m w k i d r s t) where
     abbrev before : PlainSet
     before = read_in m w s
-
-    -- the mask has the index alone
-    mask_at : (o : ℕ) → (read_in m w (bit_set w mask)).has o ≡ (o == i % w)
-    mask_at o = ap (λ u. u.has o) new.one
-        ∙ ap (λ p. p o) (has_with-in (empty_set w) w i refl at.word)
-        ∙ or-false (o == i % w)
 
     -- the set with the word replaced is the set with that one index changed
     pub bit_combined : (whole : (words : ℕ) × (s.capacity ≡ words * w)) →
@@ -80,12 +114,9 @@ module _ {m : Bool} {w k i d : ℕ} {s : PlainSet} (at : HoldsIndex m w k i d s)
         (read_in m w t).has n ≡ f (before.has n) (n % w == i % w) = λ n e.
         let o = n % w in
         let h = mod_below n w at.word in
-        in_word m w k r s t at.word whole past also new.replaced n e
-        ∙ ap (λ u. u.has o) (word_combined f w d mask r m at.word new.is)
-        ∙ combination-below f (read_in m w (bit_set w d)) (read_in m w (bit_set w mask)) o h h
-        ∙ ap (λ b. f b ((read_in m w (bit_set w mask)).has o)) (digit_at m w k s d at.word at.ours o h
-        ∙ ap before.has (place_in w k n e))
-        ∙ ap (f (before.has n)) (mask_at o) in
+        in_word m w k r s t at.word whole past also new.replaced n e ∙ new.is o h
+        ∙ ap (λ b. f b (o == i % w)) (digit_at m w k s d at.word at.ours o h
+        ∙ ap before.has (place_in w k n e)) in
         let each : (n : ℕ) → (read_in m w t).has n ≡ cond (n == i) value (before.has n) = λ n.
         elim (cases_eq n i) [
           | inl e ↦ decided n (ap (λ j. j / w) e ∙ sym at.where_is)

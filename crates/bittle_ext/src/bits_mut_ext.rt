@@ -233,7 +233,7 @@ pub trait BitsMutExt: BitsMut + Sized {
         ensures stays { Self.loan self.old ≡ Self.loan self.new }
     {
         let first = first_from::<Self, Self::Order, Ones>(&*self, 0)?;
-        one_bit::combine_within::<Self, Self::Order, Difference>(self, first);
+        one_bit::clear_first::<Self, Self::Order>(self, first);
         Some(first)
     }
 

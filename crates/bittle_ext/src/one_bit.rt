@@ -1,12 +1,12 @@
-//! Changes one bit of a set in its word by a mask, without a branch on the bit.
+//! Changes one bit of a set in its word, without a branch on the bit.
 
 ghost use Rattle.std.specs.Prelude.{◌≡◌, ◌<◌, true, IsTrue};
 ghost use Rattle.bittle_ext.specs.Changes.{with_index_assigned};
-ghost use Rattle.bittle.specs.PlainSet.{contains};
+ghost use Rattle.bittle.specs.PlainSet.{contains, without_index, IsLeastMember};
 ghost use Rattle.bittle.specs.Values.{set_in, ShapeFits};
 
 use bittle::{Bits, BitsMut, Endian};
-use bittle_bits::extension::{RangeOperation, Word};
+use bittle_bits::extension::{Front, RangeOperation, Word, pop};
 
 /// Returns whether the shape of a set fits, and its capacity is not 0.
 #[inline]
@@ -36,6 +36,24 @@ pub fn combine_within<B: BitsMut, E: Endian, O: RangeOperation>(set: &mut B, ind
     let word = set.nth_leaf_word(k);
     set.set_nth_leaf_word(k, O::on_words::<B::LeafWord>(word, mask));
     !word.and(mask).is_zero()
+}
+
+/// Clears the least set bit, which is the bit at `first`. No mask is made from the index if the bit
+/// has the least weight of the set bits in its word.
+#[inline]
+pub fn clear_first<B: BitsMut, E: Endian>(set: &mut B, first: u32)
+    requires fits { ShapeFits B.Shape set.old }
+    requires within { first < (B.big set.old).capacity }
+    requires least { IsLeastMember (set_in B.Shape E.Endian set.old) first }
+    ensures set { set_in B.Shape E.Endian set.new
+        ≡ without_index (set_in B.Shape E.Endian set.old) first }
+    ensures stays { B.loan set.old ≡ B.loan set.new }
+{
+    let k = (first / <B::LeafWord as Word>::width()) as usize;
+    let mut word = set.nth_leaf_word(k);
+    if let Some(_) = pop::<B::LeafWord, E, Front>(&mut word) {
+        set.set_nth_leaf_word(k, word);
+    }
 }
 
 /// Changes the bit at `index` by the operation `O`: `Union` sets it, `Difference` clears it, and

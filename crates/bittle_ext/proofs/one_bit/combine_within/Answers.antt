@@ -1,6 +1,6 @@
 use Rattle.std.proofs.Common.{◌∙◌, ◌/◌, ap, not}
 use Rattle.bittle_bits.proofs.WordCalls.{word_tested}
-use Rattle.bittle_ext.proofs.OneBit.{HoldsIndex, CombinesIndex, contained_in_word, bit_combined}
+use Rattle.bittle_ext.proofs.OneBit.{HoldsIndex, CombinesIndex, bit_combined, combined_alone, contained_in_word}
 use Rattle.bittle_ext.proofs.one_bit.combine_within.Goals as goal
 
 pub returns : goal.returns
@@ -19,11 +19,11 @@ returns g c =
       within = c.requires.within;
       ours = c.nth_leaf_word-word.ensures;
     } in
-    let combined : CombinesIndex g.O.Operation.decide m w (i / c.width.result) i _ _ _
+    let combined : CombinesIndex g.O.Operation.decide m w (i / c.width.result) i _ _
     (g.B.Shape.big old) (g.B.Shape.big new) = record {
       keeps = g.met.O.RangeOperation.keeps_others;
-      one = one;
-      is = rw wide at c.on_words.ensures;
+      is = combined_alone g.O.Operation.decide m w i _ _ _ b.width_positive one
+          (rw wide at c.on_words.ensures);
       replaced = c.set_nth_leaf_word.ensures.set;
     } in
     record {
