@@ -2,6 +2,7 @@
 
 ghost use Rattle.std.specs.Prelude.{◌*◌, ◌<◌, ◌≤◌};
 ghost use Rattle.bittle_ext.specs.Runs.{cut_off, IsFirstRun};
+ghost use Rattle.bittle.specs.PlainSet.{complement, IsGreatestMember};
 ghost use Rattle.bittle.specs.Values.{kind_in, word_in, ShapeFits};
 
 use crate::rotations::window;
@@ -33,6 +34,19 @@ fn first_in_word<W: Word, E: Endian>(word: W, length: u32) -> Option<u32>
         return None;
     }
     Some(index)
+}
+
+/// Returns how many bits at the end of a word are set. The test for an empty word changes no
+/// result. It makes the compiler use branches in the loop below, so that no step waits for the step
+/// before.
+#[inline(always)]
+fn set_at_end<W: Word, E: Endian>(word: W) -> u32
+    ensures { IsGreatestMember (complement (word_in W.Word E.Endian word)) result }
+{
+    if word.is_zero() {
+        return 0;
+    }
+    E::ones_rev::<W>(word)
 }
 
 /// Returns the least index at or above `from` where a run of `length` bits of the kind `K` (set or
@@ -72,7 +86,7 @@ pub fn next_short_run<B: Bits, E: Endian, K: Kind>(
         open = if lead == width {
             open + width
         } else {
-            E::ones_rev::<B::LeafWord>(word)
+            set_at_end::<B::LeafWord, E>(word)
         };
         let after = k + 1;
         let next = bits.pass_over::<K, Front>(after as usize, words as usize) as u32;

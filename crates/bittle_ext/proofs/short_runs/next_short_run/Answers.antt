@@ -62,7 +62,7 @@ room g c = elim c.if-lead-width.branch [
   | else-lead-width t ↦ omega (
     arith,
     t.open-is,
-    t.ones_rev-open.ensures.within,
+    t.set_at_end-open.ensures.within,
     g.met.B.ReadWords.leaf_width,
   )
 ]
@@ -97,10 +97,10 @@ past g c =
           rw e (open_stays _ _ _ _ _ c.ones-lead.result _ _ read least short
           (omega (arith, least.within, t.if-lead-width.true, wide, leaf)))
       | else-lead-width t ↦
-          let tail = t.ones_rev-open.result in
+          let tail = t.set_at_end-open.result in
           let e : k * w + w - c.if-lead-width.open ≡ k * w + w - tail = omega (arith, t.open-is) in
           rw e (open_anew _ _ _ _ _ c.ones-lead.result _ _ read least short tail
-          (omega (arith, least.within, t.if-lead-width.false, wide, leaf)) t.ones_rev-open.ensures
+          (omega (arith, least.within, t.if-lead-width.false, wide, leaf)) t.set_at_end-open.ensures
           none)
     ]
 
