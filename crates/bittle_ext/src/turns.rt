@@ -97,13 +97,14 @@ fn turn_bits<B: BitsMut, E: Endian>(set: &mut B, by: u32)
     let (words, skipped, from) = distance::<B>(set, by);
     let last = words - 1;
     let wrapped = word_from::<B, E>(set, last, 0, from);
-    if skipped == 0 {
-        shift_down::<B, E>(set, by);
-        set.set_nth_leaf_word(last, wrapped);
+    let end = if skipped == 0 {
+        wrapped
     } else {
-        let first = word_from::<B, E>(set, 0, 1, from);
-        shift_down::<B, E>(set, by);
-        set.set_nth_leaf_word(last, first);
+        word_from::<B, E>(set, 0, 1, from)
+    };
+    shift_down::<B, E>(set, by);
+    set.set_nth_leaf_word(last, end);
+    if skipped != 0 {
         set.set_nth_leaf_word(last - 1, wrapped);
     }
 }
@@ -126,13 +127,14 @@ fn turn_bits_up<B: BitsMut, E: Endian>(set: &mut B, by: u32)
     let (words, skipped, from) = distance::<B>(set, by);
     let last = words - 1;
     let wrapped = word_from::<B, E>(set, last, 0, from);
-    if skipped == last {
-        shift_up::<B, E>(set, up);
-        set.set_nth_leaf_word(0, wrapped);
+    let start = if skipped == last {
+        wrapped
     } else {
-        let first = word_from::<B, E>(set, skipped, last, from);
-        shift_up::<B, E>(set, up);
-        set.set_nth_leaf_word(0, first);
+        word_from::<B, E>(set, skipped, last, from)
+    };
+    shift_up::<B, E>(set, up);
+    set.set_nth_leaf_word(0, start);
+    if skipped != last {
         set.set_nth_leaf_word(1, wrapped);
     }
 }
