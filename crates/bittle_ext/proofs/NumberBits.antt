@@ -4,16 +4,16 @@ use Rattle.std.specs.Int.{bit_at}
 use Rattle.std.proofs.Math.Path.{fun_ext}
 use Rattle.std.proofs.Math.Nat.{mod-eq_of_lt}
 use Rattle.std.proofs.Math.Pow.{pow_mono, shr_lt}
-use Rattle.std.proofs.lemmas.Bool.{cases_eq, cases_lt, eq-eqb, ne_eqb}
+use Rattle.std.proofs.lemmas.Bool.{cases_eq, cases_lt, eq-eqb, lt-ltb, ne_eqb}
 use Rattle.std.proofs.lemmas.Nat.{and_mask, mod_below, mul-add-lt, or_shifted, pow-add, pow_pos, shr_split}
 use Rattle.std.proofs.lemmas.Nat.Bits.{bit_at-lt, bit_at_above, bit_at_cat_high, bit_at_cat_low, ones_shr}
 use Rattle.bittle.specs.BitPatterns.{bit_has, bit_set}
-use Rattle.bittle.specs.Orders.{mirror, read_in}
-use Rattle.bittle.specs.PlainSet.{PlainSet, is_in_span, span_set}
+use Rattle.bittle.specs.Orders.{mirror, place, read_in}
+use Rattle.bittle.specs.PlainSet.{PlainSet, is_in_span}
 use Rattle.bittle.specs.SetOperations.{combination_of, just_one}
 use Rattle.bittle.specs.Words.{word_of}
 use Rattle.bittle_bits.specs.LawProofs.{bit_has-past}
-use Rattle.bittle_bits.proofs.BitSets.{bit_has-at}
+use Rattle.bittle_bits.proofs.BitSets.{all_digits, bit_has-at, bit_has-zero, full_word}
 use Rattle.bittle_bits.proofs.PlaceLemmas.{mirror_in_word, place-place, place_past}
 use Rattle.bittle_bits.proofs.PlainSets.{plain_set}
 use Rattle.bittle_bits.proofs.SetOperations.{combination-below}
@@ -175,21 +175,62 @@ bits_past s first n end d past ends fits bits i h =
       ]
     ]
 
+-- a window over a word of set bits and a word of unset ones has just its first `count` bits set
+pub first_of_ones : (m : Bool) (w count ones unset r i : ℕ) → 0 < w → i < w → count ≤ w →
+    unset ≡ 0 → unset < 2 ^ w → ones ≡ 2 ^ w - 1 - unset →
+    IsWindow w (w - count) (read_in m w (bit_set w ones)) (read_in m w (bit_set w unset))
+    (read_in m w (bit_set w r)) → (read_in m w (bit_set w r)).has i ≡ is_in_span 0 count i
+first_of_ones m w count ones unset r i word h within none fits all window =
+    elim (cases_lt i count) [
+      | inl l ↦
+          let b : i + (w - count) < w = omega (arith, within, l) in
+          window.first i b
+          ∙ ap (λ u. u.has (i + (w - count))) (full_word w ones word
+          (all_digits w unset ones none fits all) m)
+          ∙ lt-ltb _ _ b ∙ sym (is_in_span-inside 0 count i (omega arith) l)
+      | inr g ↦ window.second i h (omega (arith, within, g))
+          ∙ ap (λ p. p (place m w (i + (w - count) - w))) (bit_has-zero w unset none)
+          ∙ sym (is_in_span-outside 0 count i (inr g))
+    ]
+
+-- the first `count` bits of a word, moved up by `from`, are the bits of a span from there on
+pub first_moved : (m : Bool) (w from count unset first r i : ℕ) → i < w → from + count ≤ w →
+    unset ≡ 0 → ((i : ℕ) → i < w → (read_in m w (bit_set w first)).has i ≡ is_in_span 0 count i) →
+    IsWindow w (w - from) (read_in m w (bit_set w unset)) (read_in m w (bit_set w first))
+    (read_in m w (bit_set w r)) →
+    (read_in m w (bit_set w r)).has i ≡ is_in_span from (from + count) i
+first_moved m w from count unset first r i h within none span window =
+    elim (cases_lt i from) [
+      | inl l ↦ window.first i (omega (arith, within, l))
+          ∙ ap (λ p. p (place m w (i + (w - from)))) (bit_has-zero w unset none)
+          ∙ sym (is_in_span-outside from (from + count) i (inl l))
+      | inr g ↦
+          let o = i + (w - from) - w in
+          window.second i h (omega (arith, within, g)) ∙ span o (omega (arith, within, h, g))
+          ∙ elim (cases_lt i (from + count)) [
+            | inl l ↦ is_in_span-inside 0 count o (omega arith) (omega (arith, within, l, g))
+                ∙ sym (is_in_span-inside from (from + count) i g l)
+            | inr far ↦ is_in_span-outside 0 count o (inr (omega (arith, within, far)))
+                ∙ sym (is_in_span-outside from (from + count) i (inr far))
+          ]
+    ]
+
 -- a word that is cut to its first `end` bits
 pub cut_to_first : (m : Bool) (w end p mask r i : ℕ) → 0 < w → i < w →
-    read_in m w (bit_set w mask) ≡ span_set w 0 end →
+    (read_in m w (bit_set w mask)).has i ≡ is_in_span 0 end i →
     bit_set w r ≡ combination_of ◌&&◌ (bit_set w p) (bit_set w mask) →
     (read_in m w (bit_set w r)).has i ≡ ((read_in m w (bit_set w p)).has i && is_in_span 0 end i)
 cut_to_first m w end p mask r i word h span is =
     ap (λ u. u.has i) (word_combined ◌&&◌ w p mask r m word is)
     ∙ combination-below ◌&&◌ (read_in m w (bit_set w p)) (read_in m w (bit_set w mask)) i h h
-    ∙ ap (λ u. (read_in m w (bit_set w p)).has i && u.has i) span
+    ∙ ap (λ b. (read_in m w (bit_set w p)).has i && b) span
 
 -- a word of which some bits are replaced by the first bits of another word
 module _ (m : Bool) (w from count p q mask moved other change r : ℕ) (t : PlainSet) (word : 0 < w)
     (within : from + count ≤ w)
     (window : IsWindow w (w - from) t (read_in m w (bit_set w q)) (read_in m w (bit_set w moved)))
-    (span : read_in m w (bit_set w mask) ≡ span_set w from (from + count))
+    (span : (i : ℕ) → i < w →
+    (read_in m w (bit_set w mask)).has i ≡ is_in_span from (from + count) i)
     (differs : bit_set w other ≡ combination_of just_one (bit_set w p) (bit_set w moved))
     (cut : bit_set w change ≡ combination_of ◌&&◌ (bit_set w other) (bit_set w mask))
     (is : bit_set w r ≡ combination_of just_one (bit_set w p) (bit_set w change)) where
@@ -206,7 +247,7 @@ module _ (m : Bool) (w from count p q mask moved other change r : ℕ) (t : Plai
   change_at : (i : ℕ) → i < w → at_place change i
       ≡ (just_one (at_place p i) (at_place moved i) && is_in_span from (from + count) i)
   change_at i h = combined ◌&&◌ other mask change cut i h
-      ∙ (λ j. combined just_one p moved other differs i h j && (span j).has i)
+      ∙ (λ j. combined just_one p moved other differs i h j && span i h j)
 
   twice : (a b : Bool) → just_one a (just_one a b && true) ≡ b
   twice true true = refl

@@ -37,6 +37,16 @@ pub record HoldsIndex (m : Bool) (w k i d : ℕ) (s : PlainSet) : Type 0 where
   pub within : i < s.capacity
   pub ours : bit_set w d ≡ word_of w s k
 
+-- the word whose number is the index divided by the width holds the index
+pub holds_index : (m : Bool) (w v i d : ℕ) (s : PlainSet) → 0 < w → v ≡ w → i < s.capacity →
+    bit_set w d ≡ word_of w s (i / v) → HoldsIndex m w (i / v) i d s
+holds_index m w v i d s word is within ours = record {
+  word = word;
+  where_is = ap (λ n. i / n) is;
+  within = within;
+  ours = ours;
+}
+
 -- r is the word d in which the operation decides about the place of index i, and t is the set with r
 -- in the place of that word
 pub record CombinesIndex (f : Bool → Bool → Bool) (m : Bool) (w k i d r : ℕ) (s t : PlainSet) :

@@ -7,10 +7,12 @@ ghost use Rattle.bittle.specs.Values.{set_in, ShapeFits};
 ghost use Rattle.bittle_ext.specs.Numbers.{HasBitsOf, with_copied};
 
 use crate::capacities::capacity_of;
-use crate::numbers::{low_bits, low_bits_of, number_of, width_of, with_first_bits, word_of};
-use crate::rotations::window;
+use crate::numbers::{
+    first_bits, low_bits, low_bits_of, number_of, width_of, with_first_bits, word_of,
+};
+use crate::rotations::{all_bits, window};
 use bittle::{Bits, BitsMut, Endian};
-use bittle_bits::extension::{Conjunction, Operation, Word, are_alike, range};
+use bittle_bits::extension::{Conjunction, Operation, Word, are_alike};
 
 /// Returns how many bits each word of a set has: 128 at most.
 #[inline]
@@ -105,7 +107,7 @@ fn word_at<B: Bits, E: Endian>(set: &B, first: u32, count: u32) -> B::LeafWord
     if end == count {
         return word;
     }
-    Conjunction::on_words::<B::LeafWord>(word, range::<B::LeafWord, E>(0, end))
+    Conjunction::on_words::<B::LeafWord>(word, first_bits::<B::LeafWord, E>(end))
 }
 
 /// Returns a word of the type of `A`'s words, in the order `E`. Its first `count` bits are the bits
@@ -154,15 +156,15 @@ fn put_word<A: BitsMut, E: Endian>(set: &mut A, first: u32, count: u32, word: A:
     );
 }
 
-/// Returns, as a number, the `count` bits of `value` from bit `first` on.
+/// Returns, as a number, as many bits of `value` from bit `first` on as a word has.
 #[inline]
-fn part_of(value: u64, first: u32, count: u32) -> u128
-    requires some { 0 < count }
-    requires within { first + count ≤ 64 }
-    ensures below { result < 2 ^ count }
-    ensures bits { HasBitsOf (bit_set 64 value) first count result }
+fn part_of<W: Word>(value: u64, first: u32) -> u128
+    requires within { first < 64 }
+    ensures below { result < 2 ^ W.width }
+    ensures bits { (count : ℕ) → count ≤ W.width → first + count ≤ 64
+        → HasBitsOf (bit_set 64 value) first count result }
 {
-    (value >> first & u64::MAX >> (64 - count)) as u128
+    (value >> first) as u128 & all_bits::<W>()
 }
 
 /// Writes the lowest `count` bits of a number to `count` indexes of the set, from `first` on.
@@ -180,7 +182,7 @@ pub fn put_value<A: BitsMut, E: Endian>(set: &mut A, first: u32, count: u32, val
     while done < count {
         let at = first + done;
         let more = (width - at % width).min(count - done);
-        let word = word_of::<A::LeafWord, E>(part_of(value, done, more));
+        let word = word_of::<A::LeafWord, E>(part_of::<A::LeafWord>(value, done));
         put_word::<A, E>(set, at, more, word);
         done += more;
     }

@@ -4,11 +4,12 @@ ghost use Rattle.std.specs.Prelude.{◌≡◌, ℕ, ◌+◌, ◌-◌, ◌*◌, �
 ghost use Rattle.std.specs.Int.{bit_at};
 ghost use Rattle.bittle.specs.BitPatterns.{bit_set};
 ghost use Rattle.bittle.specs.Orders.{read_in};
+ghost use Rattle.bittle.specs.PlainSet.{is_in_span};
 ghost use Rattle.bittle_ext.specs.Numbers.{has_copied};
 
-use crate::rotations::{all_bits, window_up_to};
+use crate::rotations::{all_bits, window, window_up_to};
 use bittle::Endian;
-use bittle_bits::extension::{Conjunction, Operation, SymmetricDifference, Word, range};
+use bittle_bits::extension::{Conjunction, Operation, SymmetricDifference, Word};
 
 /// Returns a number in which the bits `i` and `i + by` have changed places, for each `i` whose bit
 /// is set in the mask. No other bit of the result is set.
@@ -125,6 +126,33 @@ pub fn low_bits_of<W: Word>(number: u128, count: u32) -> u128
     number & all_bits::<W>() >> ((width - count) % width)
 }
 
+/// Returns the word in which just the first `count` bits are set, in the order `E`. They are cut
+/// from a word in which every bit is set.
+#[inline]
+pub fn first_bits<W: Word, E: Endian>(count: u32) -> W
+    requires some { 0 < count }
+    requires within { count ≤ W.width }
+    ensures { (i : ℕ) → i < W.width
+        → (read_in E.mirrored W.width (bit_set W.width (W.pattern result))).has i
+        ≡ is_in_span 0 count i }
+{
+    let unset = W::zero();
+    window::<W, E>(unset.not(), unset, width_of::<W>() - count)
+}
+
+/// Returns the word in which just the `count` bits from the index `from` on are set, in the order
+/// `E`. These are the first `count` bits, moved up by `from`.
+#[inline]
+fn bits_from<W: Word, E: Endian>(from: u32, count: u32) -> W
+    requires some { 0 < count }
+    requires within { from + count ≤ W.width }
+    ensures { (i : ℕ) → i < W.width
+        → (read_in E.mirrored W.width (bit_set W.width (W.pattern result))).has i
+        ≡ is_in_span from (from + count) i }
+{
+    window_up_to::<W, E>(W::zero(), first_bits::<W, E>(count), from)
+}
+
 /// Returns `word` with its `count` bits from the index `from` on replaced by the first `count` bits
 /// of `by`. Both words are read in the order `E`. If `count` is the width of the word, no mask is
 /// made.
@@ -145,6 +173,6 @@ pub fn with_first_bits<W: Word, E: Endian>(word: W, from: u32, count: u32, by: W
     }
     let moved = window_up_to::<W, E>(W::zero(), by, from);
     let other = SymmetricDifference::on_words::<W>(word, moved);
-    let change = Conjunction::on_words::<W>(other, range::<W, E>(from, from + count));
+    let change = Conjunction::on_words::<W>(other, bits_from::<W, E>(from, count));
     SymmetricDifference::on_words::<W>(word, change)
 }

@@ -1,5 +1,4 @@
-use Rattle.std.proofs.Common.{◌≡◌, ◌+◌, ◌^◌, ◌≤◌, ap, ◌∙◌, refl, arith}
-use Rattle.std.proofs.Math.Pow.{pow_mono}
+use Rattle.std.proofs.Common.{◌≡◌, ◌+◌, ◌≤◌, ap, ◌∙◌, refl, arith}
 use Rattle.bittle.specs.BitPatterns.{bit_set}
 use Rattle.bittle.specs.Orders.{read_in}
 use Rattle.bittle.specs.PlainSet.{PlainSet}
@@ -15,14 +14,6 @@ loop-done-init g c = record {
   stays = refl;
 }
 
-pub word_of-word-requires : goal.word_of-word-requires
-word_of-word-requires g c =
-    let w = g.A.Shape.width in
-    let more : c.min-more.result ≤ w =
-    omega (arith, c.min-more.ensures, c.width_of_words-width.ensures.width) in
-    let most : 2 ^ c.min-more.result ≤ 2 ^ w = pow_mono more in
-    rw g.met.A.ReadWords.leaf_width (omega (arith, c.part_of.ensures.below, most))
-
 pub loop-done-preserved : goal.loop-done-preserved
 loop-done-preserved g c =
     let w = g.A.Shape.width in
@@ -35,14 +26,16 @@ loop-done-preserved g c =
     let word =
     read_in g.E.Endian.mirrored w (bit_set w (g.A.LeafWord.Word.pattern c.word_of-word.result)) in
     let zero_more : 0 + done ≡ done = omega arith in
+    let small : more ≤ w =
+    omega (arith, c.min-more.ensures, c.width_of_words-width.ensures.width) in
+    let bits = (rw g.met.A.ReadWords.leaf_width at c.part_of.ensures.bits) more small
+    (omega (arith, c.min-more.ensures, c.loop-done-test.true, c.requires.number)) in
     record {
       most = omega (arith, c.min-more.ensures, c.loop-done-test.true);
       copied = c.put_word.ensures.set
           ∙ ap (λ u. with_copied u (first + done) more word 0) v.copied
           ∙ copied_after s t first done more 0 word (λ i h.
           ap (λ (u : PlainSet). u.has i) (rw g.met.A.ReadWords.leaf_width at c.word_of-word.ensures)
-          ∙ like_number t (0 + done) more w c.part_of.result
-          (omega (arith, c.min-more.ensures, c.width_of_words-width.ensures.width))
-          (rw zero_more c.part_of.ensures.bits) i h);
+          ∙ like_number t (0 + done) more w c.part_of.result small (rw zero_more bits) i h);
       stays = v.stays ∙ c.put_word.ensures.stays;
     }

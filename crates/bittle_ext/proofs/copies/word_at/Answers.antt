@@ -1,4 +1,4 @@
-use Rattle.std.proofs.Common.{◌≡◌, ◌+◌, ◌-◌, ◌&&◌, true, false, inl, inr, refl, sym, ap, ◌∙◌, arith}
+use Rattle.std.proofs.Common.{◌≡◌, ◌+◌, ◌<◌, ◌&&◌, true, false, inl, inr, refl, sym, ap, ◌∙◌, arith}
 use Rattle.std.proofs.Math.Bool.{and-true}
 use Rattle.std.proofs.lemmas.Bool.{and_right, cases_lt}
 use Rattle.bittle.specs.BitPatterns.{bit_set}
@@ -29,8 +29,9 @@ returns g c i h =
     let m = g.E.Endian.mirrored in
     let end = c.min-end.result in
     let here = (read_in m w (bit_set w (g.B.LeafWord.Word.pattern c.word_near-word.result))).has i in
-    cut_to_first m w end _ _ _ i b.width_positive (omega (arith, h, c.requires.within))
-    (rw b.leaf_width at c.range.ensures) (rw b.leaf_width at c.on_words.ensures)
+    let inside : i < w = omega (arith, h, c.requires.within) in
+    cut_to_first m w end _ _ _ i b.width_positive inside
+    ((rw b.leaf_width at c.first_bits.ensures) i inside) (rw b.leaf_width at c.on_words.ensures)
     ∙ elim (cases_lt i end) [
       | inl l ↦ ap (λ x. here && x) (is_in_span-inside 0 end i (omega arith) l)
           ∙ and-true here ∙ c.word_near-word.ensures i l

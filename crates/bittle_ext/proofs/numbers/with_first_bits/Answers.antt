@@ -17,5 +17,5 @@ returns-then-count-width_of g c i h =
 pub returns : goal.returns
 returns g c i h =
     replaced_bits g.E.Endian.mirrored g.W.Word.width c.args.from c.args.count _ _ _ _ _ _ _ _
-    g.met.W.Word.width_positive c.requires.within c.window_up_to-moved.ensures c.range.ensures
+    g.met.W.Word.width_positive c.requires.within c.window_up_to-moved.ensures c.bits_from.ensures
     c.on_words-other.ensures c.on_words-change.ensures c.on_words.ensures i h

@@ -8,7 +8,7 @@ use Rattle.bittle.specs.PlainSet.{contains}
 use Rattle.bittle.specs.SetOperations.{first_alone}
 use Rattle.bittle.specs.Values.{set_in}
 use Rattle.bittle_ext.specs.Changes.{with_index_assigned}
-use Rattle.bittle_ext.proofs.OneBit.{HoldsIndex, CombinesIndex, bit_combined, has_place, least_place, taken_alone}
+use Rattle.bittle_ext.proofs.OneBit.{CombinesIndex, bit_combined, has_place, holds_index, least_place, taken_alone}
 use Rattle.bittle_ext.proofs.RetainedWords.{none_left, popped}
 use Rattle.bittle_ext.proofs.one_bit.clear_first.Goals as goal
 
@@ -22,12 +22,8 @@ returns-in-Some-clause-set g c =
     let new = c.set_nth_leaf_word.new.self in
     let s = set_in g.B.Shape g.E.Endian old in
     let d = bit_set w (g.B.LeafWord.Word.pattern c.nth_leaf_word-word.result) in
-    let at : HoldsIndex m w (i / c.width.result) i _ (g.B.Shape.big old) = record {
-      word = b.width_positive;
-      where_is = ap (λ v. i / v) (c.width.ensures ∙ b.leaf_width);
-      within = c.requires.within;
-      ours = c.nth_leaf_word-word.ensures;
-    } in
+    let at = holds_index m w _ i _ (g.B.Shape.big old) b.width_positive
+    (c.width.ensures ∙ b.leaf_width) c.requires.within c.nth_leaf_word-word.ensures in
     let pop = popped w c.in-Some.field-0 _ _ (rw b.leaf_width at c.in-Some.ensures.found) in
     let cleared : CombinesIndex first_alone m w (i / c.width.result) i _ _ (g.B.Shape.big old)
     (g.B.Shape.big new) = record {
@@ -45,13 +41,9 @@ returns-in_default-clause-set g c =
     let b = g.met.B.ReadWords in
     let w = g.B.Shape.width in
     let i = c.args.first in
-    let at : HoldsIndex g.E.Endian.mirrored w (i / c.width.result) i _
-    (g.B.Shape.big c.args.set.now) = record {
-      word = b.width_positive;
-      where_is = ap (λ v. i / v) (c.width.ensures ∙ b.leaf_width);
-      within = c.requires.within;
-      ours = c.nth_leaf_word-word.ensures;
-    } in
+    let at = holds_index g.E.Endian.mirrored w _ i _ (g.B.Shape.big c.args.set.now)
+    b.width_positive (c.width.ensures ∙ b.leaf_width) c.requires.within
+    c.nth_leaf_word-word.ensures in
     let none = none_left w _ (rw b.leaf_width at c.in_default.ensures.found).0 (i % w)
     (mod_below i w b.width_positive) in
     absurd (true≢false (sym (has_place at c.requires.least) ∙ none))

@@ -1,6 +1,6 @@
 use Rattle.std.proofs.Common.{◌∙◌, ◌/◌, ap, not}
 use Rattle.bittle_bits.proofs.WordCalls.{word_tested}
-use Rattle.bittle_ext.proofs.OneBit.{HoldsIndex, CombinesIndex, bit_combined, combined_alone, contained_in_word}
+use Rattle.bittle_ext.proofs.OneBit.{CombinesIndex, bit_combined, combined_alone, contained_in_word, holds_index}
 use Rattle.bittle_ext.proofs.one_bit.combine_within.Goals as goal
 
 pub returns : goal.returns
@@ -13,12 +13,8 @@ returns g c =
     let old = c.args.set.now in
     let new = c.set_nth_leaf_word.new.self in
     let one = rw wide at c.mask-mask.ensures in
-    let at : HoldsIndex m w (i / c.width.result) i _ (g.B.Shape.big old) = record {
-      word = b.width_positive;
-      where_is = ap (λ v. i / v) (c.width.ensures ∙ wide);
-      within = c.requires.within;
-      ours = c.nth_leaf_word-word.ensures;
-    } in
+    let at = holds_index m w _ i _ (g.B.Shape.big old) b.width_positive (c.width.ensures ∙ wide)
+    c.requires.within c.nth_leaf_word-word.ensures in
     let combined : CombinesIndex g.O.Operation.decide m w (i / c.width.result) i _ _
     (g.B.Shape.big old) (g.B.Shape.big new) = record {
       keeps = g.met.O.RangeOperation.keeps_others;
