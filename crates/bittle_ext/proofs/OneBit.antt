@@ -1,22 +1,24 @@
 -- Sets after one bit was changed in its word.
-use Rattle.std.proofs.Common.{◌≡◌, ℕ, ◌+◌, ◌*◌, ◌/◌, ◌%◌, ◌<◌, ◌≤◌, Bool, true, false, cond, not, ◌&&◌, ◌||◌, ◌==◌, nat_lt, inl, inr, refl, sym, ap, ◌∙◌, arith}
+use Rattle.std.proofs.Common.{◌≡◌, ℕ, ◌+◌, ◌-◌, ◌*◌, ◌/◌, ◌%◌, ◌^◌, ◌<◌, ◌≤◌, Bool, true, false, cond, not, ◌&&◌, ◌||◌, ◌==◌, nat_lt, inl, inr, refl, sym, ap, ◌∙◌, arith}
 use Rattle.std.proofs.Math.Bool.{and-true, or-false}
 use Rattle.std.proofs.Math.Path.{fun_ext}
-use Rattle.std.proofs.lemmas.Nat.{div-add-mod', mod_below}
-use Rattle.std.proofs.lemmas.Bool.{and_right, cases_eq, cases_lt, eq-eqb, ne_eqb, true≢false}
-use Rattle.bittle.specs.BitPatterns.{bit_set}
+use Rattle.std.proofs.lemmas.Nat.{div-add-mod', div_below, mod_below}
+use Rattle.std.proofs.lemmas.Bool.{and_right, cases_eq, cases_lt, eq-eqb, lt-ltb, ne_eqb, true≢false}
+use Rattle.bittle.specs.BitPatterns.{bit_has, bit_set}
 use Rattle.bittle.specs.SetOperations.{combination_of, first_alone}
 use Rattle.bittle.specs.Words.{word_of, ReplacesWord}
+use Rattle.bittle_bits.proofs.OnesOrZeros.{digits_of_complement, ones_or_zeros-word_of}
+use Rattle.bittle_bits.proofs.PlaceLemmas.{place_in_word}
 use Rattle.bittle_bits.proofs.PlainSets.{plain_set, contains_in, has_with-in}
 use Rattle.bittle_bits.proofs.SetOperations.{combination-below}
 use Rattle.bittle_bits.proofs.WordOperations.{word_combined}
 use Rattle.bittle_bits.proofs.Words.{digit_at}
-use Rattle.bittle.specs.Orders.{read_in}
-use Rattle.bittle.specs.PlainSet.{PlainSet, contains, empty_set, has_with, has_without, with_index, IsLeastMember}
+use Rattle.bittle.specs.Orders.{place, read_in}
+use Rattle.bittle.specs.PlainSet.{PlainSet, complement, contains, empty_set, has_with, has_without, lacks, with_index, IsLeastMember}
 use Rattle.bittle.proofs.CallerSets.{contains_within, with_index_within, without_index_within}
 use Rattle.bittle_ext.specs.Changes.{with_index_assigned}
 use Rattle.bittle_ext.proofs.RotatedSets.{contains_as}
-use Rattle.bittle_ext.proofs.RetainedWords.{IsPopped}
+use Rattle.bittle_ext.proofs.RetainedWords.{word_inside, IsPopped}
 use Rattle.bittle_ext.proofs.WordsReplaced.{place_in, in_word, in_others}
 
 -- a set has the answer at an index below the capacity, and its own members elsewhere
@@ -75,6 +77,49 @@ taken_alone w j p q pop o h = elim (cases_eq o j) [
       ∙ and_right (p o) false refl)
   | inr n ↦ pop.others o h n ∙ sym (ap (λ b. p o && not b) (ne_eqb o j n) ∙ and-true (p o))
 ]
+
+-- the inverted word has a bit set exactly if it is unset in the word
+unset_digit : (m : Bool) (w d e o : ℕ) → d < 2 ^ w → e ≡ 2 ^ w - 1 - d → o < w →
+    (read_in m w (bit_set w e)).has o ≡ not ((read_in m w (bit_set w d)).has o)
+unfolding lacks
+unset_digit m w d e o fits is h =
+    ap (λ u. u.has (place m w o)) (digits_of_complement w d e fits is)
+    ∙ ap (λ b. b && not (bit_has w d (place m w o))) (lt-ltb _ _ (place_in_word m w o h))
+
+-- the inverse of a word without the least bit of its inverse is the word with the place of that bit
+pub added_alone : (m : Bool) (w j d e rest r : ℕ) → d < 2 ^ w → e ≡ 2 ^ w - 1 - d →
+    rest < 2 ^ w → r ≡ 2 ^ w - 1 - rest →
+    IsPopped w j (read_in m w (bit_set w e)).has (read_in m w (bit_set w rest)).has → (o : ℕ) →
+    o < w → (read_in m w (bit_set w r)).has o ≡ ((read_in m w (bit_set w d)).has o || (o == j))
+added_alone m w j d e rest r fits is small turned pop o h =
+    unset_digit m w rest r o small turned h
+    ∙ ap not (taken_alone w j _ _ pop o h
+    ∙ ap (λ b. b && not (o == j)) (unset_digit m w d e o fits is h))
+    ∙ either ((read_in m w (bit_set w d)).has o) (o == j)
+  where
+    either : (a b : Bool) → not (not a && not b) ≡ a || b
+    either true true = refl
+    either true false = refl
+    either false true = refl
+    either false false = refl
+
+-- the inverse of the word that holds an index holds it in the complement of the set
+pub holds_unset : (m : Bool) (w k i d e : ℕ) (s : PlainSet) → HoldsIndex m w k i d s →
+    d < 2 ^ w → e ≡ 2 ^ w - 1 - d → (words : ℕ) × (s.capacity ≡ words * w) →
+    HoldsIndex m w k i e (complement s)
+holds_unset m w k i d e s at fits is whole = record {
+  word = at.word;
+  where_is = at.where_is;
+  within = at.within;
+  ours = digits_of_complement w d e fits is ∙ ap complement at.ours
+      ∙ ones_or_zeros-word_of false w k s (word_inside w k whole.0 s.capacity s.capacity
+      (sym whole.1) refl (omega (
+        arith,
+        at.where_is,
+        div_below i w whole.0 at.word
+            (omega (arith, at.within, whole.1)),
+      )));
+}
 
 module _ {m : Bool} {w k i d : ℕ} {s : PlainSet} (at : HoldsIndex m w k i d s) where
   -- the index, from the start of its word on

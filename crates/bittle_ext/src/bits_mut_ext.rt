@@ -289,7 +289,7 @@ pub trait BitsMutExt: BitsMut + Sized {
         ensures stays { Self.loan self.old ≡ Self.loan self.new }
     {
         let free = first_from::<Self, Self::Order, Zeros>(&*self, 0)?;
-        one_bit::combine_within::<Self, Self::Order, Union>(self, free);
+        one_bit::set_first::<Self, Self::Order>(self, free);
         Some(free)
     }
 

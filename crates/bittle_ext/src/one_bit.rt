@@ -2,7 +2,7 @@
 
 ghost use Rattle.std.specs.Prelude.{◌≡◌, ◌<◌, true, IsTrue};
 ghost use Rattle.bittle_ext.specs.Changes.{with_index_assigned};
-ghost use Rattle.bittle.specs.PlainSet.{contains, without_index, IsLeastMember};
+ghost use Rattle.bittle.specs.PlainSet.{complement, contains, with_index, without_index, IsLeastMember};
 ghost use Rattle.bittle.specs.Values.{set_in, ShapeFits};
 
 use bittle::{Bits, BitsMut, Endian};
@@ -53,6 +53,24 @@ pub fn clear_first<B: BitsMut, E: Endian>(set: &mut B, first: u32)
     let mut word = set.nth_leaf_word(k);
     if let Some(_) = pop::<B::LeafWord, E, Front>(&mut word) {
         set.set_nth_leaf_word(k, word);
+    }
+}
+
+/// Sets the least unset bit, which is the bit at `free`. No mask is made from the index if the bit
+/// has the least weight of the unset bits in its word.
+#[inline]
+pub fn set_first<B: BitsMut, E: Endian>(set: &mut B, free: u32)
+    requires fits { ShapeFits B.Shape set.old }
+    requires within { free < (B.big set.old).capacity }
+    requires least { IsLeastMember (complement (set_in B.Shape E.Endian set.old)) free }
+    ensures set { set_in B.Shape E.Endian set.new
+        ≡ with_index (set_in B.Shape E.Endian set.old) free }
+    ensures stays { B.loan set.old ≡ B.loan set.new }
+{
+    let k = (free / <B::LeafWord as Word>::width()) as usize;
+    let mut unset = set.nth_leaf_word(k).not();
+    if let Some(_) = pop::<B::LeafWord, E, Front>(&mut unset) {
+        set.set_nth_leaf_word(k, unset.not());
     }
 }
 
