@@ -78,7 +78,7 @@ pub trait BitsShiftExt: BitsMut {
     /// let mut row = [0x12u8, 0x01];
     /// row.rotate_down(2);                                 // row is [0x44, 0x80]
     /// ```
-    #[inline]
+    #[inline(always)]
     final fn rotate_down(&mut self, by: u32)
         requires { ShapeFits Self.Shape self.old }
         ensures set { set_in Self.Shape Self.Order.Endian self.new
@@ -101,7 +101,7 @@ pub trait BitsShiftExt: BitsMut {
     /// let mut row = [0x48u8, 0x80];
     /// row.rotate_up(2);                                   // row is [0x22, 0x01]
     /// ```
-    #[inline]
+    #[inline(always)]
     final fn rotate_up(&mut self, by: u32)
         requires { ShapeFits Self.Shape self.old }
         ensures set { set_in Self.Shape Self.Order.Endian self.new
