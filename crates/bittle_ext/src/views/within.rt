@@ -109,10 +109,12 @@ impl<'a, B: ReadWords, E: Endian, K: Kind> ReadWords for KindWithin<'a, B, E, K>
         }
         let width = word_width::<B>();
         if N::FRONT {
-            let at = ((self.from / width) as usize).max(low).min(high);
+            let first = (self.from / width) as usize;
+            let at = if low < first { first.min(high) } else { low };
             self.set.pass_over::<K, N>(at, high)
         } else {
-            let at = (self.to.div_ceil(width) as usize).min(high).max(low);
+            let end = self.to.div_ceil(width) as usize;
+            let at = if end < high { end.max(low) } else { high };
             self.set.pass_over::<K, N>(low, at)
         }
     }

@@ -6,49 +6,52 @@ use Rattle.bittle_ext.specs.RangeMembers.{kind_within}
 use Rattle.bittle_ext.specs.Views.{read_back}
 use Rattle.bittle_ext.proofs.PassedWords.{passes_from, passes_back, passes_within}
 use Rattle.bittle_ext.proofs.ViewFacts.{before_range, after_range}
+use Rattle.bittle_ext.proofs.views.within.KindWithinReadWords.pass_over.Goals.{then-low-first, else-low-first, then-end-high, else-end-high}
 use Rattle.bittle_ext.proofs.views.within.KindWithinReadWords.pass_over.Goals as goal
 
-pub returns-then-FRONT-2 : goal.returns-then-FRONT-2
-returns-then-FRONT-2 g c =
+pub returns-after-low-first : goal.returns-after-low-first
+returns-after-low-first g c =
     let v = c.args.self.now in
     let law = g.met.B.ReadWords in
     let w = g.B.Shape.width in
     let m = g.E.Endian.mirrored in
     let kind = g.K.Kind.ONES in
-    let at = c.min-at.result in
+    let at = c.if-low-first.at in
+    let first = ap (λ u. v.from / u) c.word_width-width.ensures in
     let front : g.N.End.FRONT ≡ true = sym c.FRONT-2.ensures ∙ c.if-FRONT-2.true in
     let ones : g.L.Kind.ONES ≡ true = sym c.ONES.ensures ∙ c.if-not-ONES.false in
     let t = set_in g.B.Shape g.E.Endian v.set.now in
     let start = before_range kind m w v.from v.to c.args.low c.args.high (v.from / w) at t
     law.width_positive c.requires.ordered (div-mul-le_self v.from w)
-    (omega (
-      arith,
-      c.min-at.ensures,
-      c.max.ensures,
-      ap (λ u. v.from / u) c.word_width-width.ensures,
-    )) in
+    (elim c.if-low-first.branch [
+      | then-low-first b ↦ omega (arith, first, b.at-is, b.min-at.ensures, b.if-low-first.true)
+      | else-low-first b ↦ omega (arith, first, b.at-is, b.if-low-first.false, c.requires.ordered)
+    ]) in
     rw (front, ones) (passes_from w c.args.low c.args.high at c.pass_over.result
     (read_back m w (kind_within kind t v.from v.to)) start
     (passes_within true kind m w at c.args.high c.pass_over.result v.from v.to
     (g.B.Shape.big v.set.now) law.width_positive (law.whole_words v.set.now)
     (rw front at c.pass_over.ensures)))
 
-pub returns-else-FRONT-2 : goal.returns-else-FRONT-2
-returns-else-FRONT-2 g c =
+pub returns-after-end-high : goal.returns-after-end-high
+returns-after-end-high g c =
     let v = c.args.self.now in
     let law = g.met.B.ReadWords in
     let w = g.B.Shape.width in
     let m = g.E.Endian.mirrored in
     let kind = g.K.Kind.ONES in
-    let at = c.max-at.result in
+    let at = c.if-end-high.at in
     let back : g.N.End.FRONT ≡ false = sym c.FRONT-2.ensures ∙ c.if-FRONT-2.false in
     let ones : g.L.Kind.ONES ≡ true = sym c.ONES.ensures ∙ c.if-not-ONES.false in
     let t = set_in g.B.Shape g.E.Endian v.set.now in
-    let end = after_range kind m w v.from v.to c.args.low c.args.high c.div_ceil.result at t
+    let end = after_range kind m w v.from v.to c.args.low c.args.high c.div_ceil-end.result at t
     law.width_positive c.requires.ordered
-    (rw (c.div_ceil.ensures, c.word_width-width.ensures)
+    (rw (c.div_ceil-end.ensures, c.word_width-width.ensures)
     (div_ceil_times v.to w law.width_positive).0)
-    (omega (arith, c.max-at.ensures, c.min.ensures)) in
+    (elim c.if-end-high.branch [
+      | then-end-high b ↦ omega (arith, b.at-is, b.max-at.ensures, b.if-end-high.true)
+      | else-end-high b ↦ omega (arith, b.at-is, b.if-end-high.false, c.requires.ordered)
+    ]) in
     rw (back, ones) (passes_back w c.args.low c.args.high at c.pass_over-else-FRONT-2.result
     (read_back m w (kind_within kind t v.from v.to)) end
     (passes_within false kind m w c.args.low at c.pass_over-else-FRONT-2.result v.from v.to
