@@ -16,7 +16,7 @@ use Rattle.bittle_ext.specs.RangeMembers.{EndsAt}
 use Rattle.bittle_ext.proofs.RankFacts.{below_stays, below_past, below_next}
 use Rattle.bittle_ext.proofs.SetFacts.{none_in_both}
 
--- whether a number is in the first alone, in just one, and in both, as so many
+-- the counts of two sets, for one number: in the first alone, in just one, and in both
 one_number : (a b : Bool) → (cond (first_alone a b) 1 0 + cond (a && b) 1 0 ≡ cond a 1 0)
     × (cond (just_one a b) 1 0 + cond (a && b) 1 0 + cond (a && b) 1 0 ≡ cond a 1 0 + cond b 1 0)
     × (cond (a && b) 1 0 ≤ cond b 1 0)

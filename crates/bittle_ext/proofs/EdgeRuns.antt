@@ -164,7 +164,7 @@ module _ (s : PlainSet) (to : ℕ) (old xs : List ℕ) (last : ℕ) (took : old 
   pub open_run : s.has last ≡ true → paired to old ≡ paired to xs ++ run last to ∷ []
   open_run here = ap (paired to) took ∙ paired_open to xs last (last_edge.begins here)
 
-  -- the list is even if this is known, and if the item ends a run
+  -- the list is even if this is known, or if the item ends a run
   pub even_old : (closed : Bool) → (IsTrue closed → IsEven old) →
       IsTrue closed ⊎ (s.has last ≡ false) → IsEven old
   even_old closed known (inl h) = known h

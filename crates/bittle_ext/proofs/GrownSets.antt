@@ -25,7 +25,7 @@ all_common s t all =
       | inr gone ↦ and_right (t.has k) (s.has k) gone ∙ sym gone
     ])
 
--- a set that has all members of another of its capacity, and a number of it that is none there
+-- a set that has all members of s, has its capacity and differs from it at i has more members
 more_members : (s t : PlainSet) → t.capacity ≡ s.capacity → Implies s.capacity s.has t.has →
     (i : ℕ) → i < s.capacity → t.has i ≡ not (s.has i) → size s < size t
 more_members s t same all i low differs =

@@ -47,7 +47,8 @@ number_is s first (suc n) d fits bits =
     ] in
     omega (arith, shr_split d n, low, top)
 
--- the bits of a number that all stand the other way round, down at the width of a word
+-- r has the 128 bits of a number reversed; shifted down by 128 - w, it has the w lowest bits of the
+-- number reversed
 module _ (w bits r : ℕ) (word : 0 < w) (small : w ≤ 128)
     (turned : (i : ℕ) → i < 128 → bit_at r i ≡ bit_at bits (127 - i)) where
   pub turned_fits : r < 2 ^ 128 → r / 2 ^ (128 - w) < 2 ^ w

@@ -21,7 +21,7 @@ use Rattle.bittle_ext.proofs.RotatedSets.{contains_as}
 use Rattle.bittle_ext.proofs.RetainedWords.{word_inside, IsPopped}
 use Rattle.bittle_ext.proofs.WordsReplaced.{place_in, in_word, in_others}
 
--- a set has the answer at an index below the capacity, and its own members elsewhere
+-- after index i was assigned a value, i has this value, and each other number is as in s
 assigned_within : (s : PlainSet) (i : ℕ) (value : Bool) → i < s.capacity →
     with_index_assigned s i value
     ≡ plain_set s.capacity (λ n. cond (n == i) value (s.has n))
@@ -86,7 +86,8 @@ unset_digit m w d e o fits is h =
     ap (λ u. u.has (place m w o)) (digits_of_complement w d e fits is)
     ∙ ap (λ b. b && not (bit_has w d (place m w o))) (lt-ltb _ _ (place_in_word m w o h))
 
--- the inverse of a word without the least bit of its inverse is the word with the place of that bit
+-- a word is inverted, loses its least set bit, and is inverted again: the result is the word with
+-- the bit at that place set
 pub added_alone : (m : Bool) (w j d e rest r : ℕ) → d < 2 ^ w → e ≡ 2 ^ w - 1 - d →
     rest < 2 ^ w → r ≡ 2 ^ w - 1 - rest →
     IsPopped w j (read_in m w (bit_set w e)).has (read_in m w (bit_set w rest)).has → (o : ℕ) →

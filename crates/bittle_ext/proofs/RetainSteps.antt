@@ -21,8 +21,8 @@ in_front : (b : Bool) (i : ℕ) (ys : List ℕ) → cond b (i ∷ []) [] ++ ys �
 in_front true i ys = refl
 in_front false i ys = refl
 
--- where nothing is from one number on and before i, the list up to i and it has i at its end, or
--- not; p and q agree below i
+-- p and q agree below i, and p has no number of from..i: the list of q up to i is that of p below
+-- `from`, and then i if q has it
 grown : (p q : ℕ → Bool) (from i : ℕ) (b : Bool) → from ≤ i → ((k : ℕ) → k < i → q k ≡ p k) →
     ((k : ℕ) → from ≤ k → k < i → p k ≡ false) → q i ≡ b →
     ascending_from q 0 (i + 1) ≡ ascending_from p 0 from ++ cond b (i ∷ []) []

@@ -68,7 +68,7 @@ pub record IsSearched (s : PlainSet) (length from end at : ℕ) : Type 0 where
   pub none_before : NoRunBegins s length from at
 
 module _ {s : PlainSet} {length from end at : ℕ} (p : IsSearched s length from end at) where
-  -- no member begins a run from the end on that is to be
+  -- if no number of at..to is a member, no run begins before `to`
   none_begin : (to : ℕ) → NoneIn s at to → NoRunBegins s length from to
   none_begin to none k h l run =
       elim (cases_lt k at) [
@@ -167,8 +167,8 @@ ends_within s low high n i some run =
     let below = ltb-true k high ((and_parts (nat_le low k) (nat_lt k high) span).1) in
     omega (arith, some, below)
 
--- the first run that ends at the end of a range or before is the first one in the range; of no
--- members, each begins up to the capacity
+-- the first run that ends at the end of a range or before is the first one in the range; a run of
+-- length 0 may begin at each number up to the capacity
 first_within : (s : PlainSet) (from to n end : ℕ) (r : Option ℕ) →
     ((n ≡ 0) × (end ≡ s.capacity)) ⊎ ((0 < n) × (end ≡ min to s.capacity)) →
     IsFirstRun (cut_off end s) from n r → IsFirstRun (members_within s from to) from n r

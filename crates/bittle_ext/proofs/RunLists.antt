@@ -7,7 +7,7 @@ use Rattle.bittle.specs.PlainSet.{PlainSet}
 use Rattle.bittle_ext.specs.Runs.{run, joined, runs_from, runs_between, runs, AreRunsBelow, RunsInOrder, RunsInReverse}
 use Rattle.bittle_ext.proofs.MaximalRuns.{runs_are_maximal}
 
--- a list has at most as many runs as it is over numbers
+-- one number more adds at most one run
 joined_length : (k : ℕ) (rs : List (Range ℕ)) → length (joined k rs) ≤ suc (length rs)
 unfolding joined
 joined_length k [] = omega arith
@@ -15,6 +15,7 @@ joined_length k (r ∷ rs) =
     elim (r.start == suc k) as (λ b. length (cond b (run k r.end ∷ rs)
     (run k (suc k) ∷ r ∷ rs)) ≤ suc (suc (length rs))) [ true ↦ omega arith | false ↦ omega arith ]
 
+-- n numbers have at most n runs
 runs_length : (p : ℕ → Bool) (from n : ℕ) → length (runs_from p from n) ≤ n
 unfolding runs_from
 runs_length p from zero = omega arith

@@ -16,7 +16,7 @@ use Rattle.bittle_ext.proofs.WordsReplaced.{replaced_where}
 unfoldable pub has_so_far_below : PlainSet → ℕ → ℕ → Bool
 has_so_far_below s by k = nat_le by k && s.has (k - by)
 
--- a number has the member that lies so far above it
+-- n is in the set shifted down by `by` exactly if n + by is in the set
 down_is : (s : PlainSet) (by n : ℕ) → ((i : ℕ) → s.capacity ≤ i → s.has i ≡ false) →
     has_shifted_down s by n ≡ s.has (n + by)
 down_is s by n past =
@@ -53,7 +53,7 @@ none_above m w c by words skipped rest k d s far size none high i =
     ap (λ p. p (place m w i)) (bit_has-zero w d none)
     ∙ sym (down-past s by (k * w + i) (omega (arith, up, far.whole, far.parts, size)))
 
--- of numbers that lie as far higher, the members lie so far below them
+-- adding d to both the distance and the number changes nothing
 below_as : (s : PlainSet) (by n d : ℕ) → has_so_far_below s (by + d) (n + d)
     ≡ has_so_far_below s by n
 unfolding has_so_far_below

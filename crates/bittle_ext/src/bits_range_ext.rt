@@ -23,9 +23,9 @@ pub trait BitsRangeExt: Bits + Sized {
     /// increasing order. Indexes follow the bit order of the type.
     ///
     /// The shape has to fit (`bits_capacity() < u32::MAX`). Past the capacity no bit is set, and a
-    /// range that runs backwards is empty. Only the words of the range are read, each once. With
-    /// capacity 0 it yields nothing. The iterator borrows only the set, so a function that borrows
-    /// the set may return the iterator.
+    /// range that runs backwards is empty. Only the words of the range are read, each once; for an
+    /// empty range one word may be read. With capacity 0 it yields nothing. The iterator borrows
+    /// only the set, so a function that borrows the set may return the iterator.
     ///
     /// ```
     /// 0b0110_0010u8.iter_ones_in_range(1, 6);             // yields 1, 5
@@ -65,8 +65,8 @@ pub trait BitsRangeExt: Bits + Sized {
     /// Returns a double-ended iterator over the maximal runs of set bits, in increasing order. Each
     /// run is a range of indexes, which follow the bit order of the type.
     ///
-    /// The shape has to fit (`bits_capacity() < u32::MAX`). Each word is read at most twice. With
-    /// capacity 0 it yields nothing.
+    /// The shape has to fit (`bits_capacity() < u32::MAX`). Each word is read at most twice. The
+    /// first step from the back also tests one bit. With capacity 0 it yields nothing.
     ///
     /// ```
     /// 0b0110_0010u8.iter_one_runs();                      // yields 1..2, 5..7

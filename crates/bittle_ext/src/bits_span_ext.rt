@@ -21,11 +21,12 @@ use std::ops::RangeBounds;
 /// Reads of a range of a set. A call that ends in `_in_range` takes two numbers; the call that ends
 /// in `_in_span` takes a Rust range, such as `2..=6`.
 ///
-/// The shape has to fit (`bits_capacity() < u32::MAX`). A range without an end, or with an end past
-/// the capacity, ends at the capacity: past the capacity no bit is set and none is unset. A range
-/// that runs backwards is empty. A range `a..=b` that was iterated over before is not allowed. The
-/// bit order (big- or little-endian) is that of the type; for another order, use the view that
-/// [`in_order`](crate::BitsViewExt::in_order) returns.
+/// The shape has to fit (`bits_capacity() < u32::MAX`). A range without an end ends at the
+/// capacity. A range with an end past the capacity is cut there: past the capacity no bit is set
+/// and none is unset. Only `all_in_range` and `all_in_span` return `false` for such a range, unless
+/// it is empty. A range that runs backwards is empty. A range `a..=b` that was iterated over before
+/// is not allowed. The bit order (big- or little-endian) is that of the type; for another order,
+/// use the view that [`in_order`](crate::BitsViewExt::in_order) returns.
 pub trait BitsSpanExt: Bits + Sized {
     /// Returns how many bits of the range are set. The call goes word by word, not bit by bit. With
     /// capacity 0 it returns 0.

@@ -38,8 +38,8 @@ pub fn combine_within<B: BitsMut, E: Endian, O: RangeOperation>(set: &mut B, ind
     !word.and(mask).is_zero()
 }
 
-/// Clears the least set bit, which is the bit at `first`. No mask is made from the index if the bit
-/// has the least weight of the set bits in its word.
+/// Clears the least set bit, which is the bit at `first`. In big-endian order no mask is made from
+/// the index: there the bit has the least weight of the set bits in its word.
 #[inline]
 pub fn clear_first<B: BitsMut, E: Endian>(set: &mut B, first: u32)
     requires fits { ShapeFits B.Shape set.old }
@@ -56,8 +56,8 @@ pub fn clear_first<B: BitsMut, E: Endian>(set: &mut B, first: u32)
     }
 }
 
-/// Sets the least unset bit, which is the bit at `free`. No mask is made from the index if the bit
-/// has the least weight of the unset bits in its word.
+/// Sets the least unset bit, which is the bit at `free`. In big-endian order no mask is made from
+/// the index: there the bit has the least weight of the unset bits in its word.
 #[inline]
 pub fn set_first<B: BitsMut, E: Endian>(set: &mut B, free: u32)
     requires fits { ShapeFits B.Shape set.old }

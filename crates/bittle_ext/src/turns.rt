@@ -1,6 +1,6 @@
-//! Rotates all bits of a set in place. If at most as many bits pass an end as two words have, the
-//! one or two words that they come to are computed first, and then a shift moves the other bits.
-//! Else whole words are rotated first, by three reversals.
+//! Rotates all bits of a set in place. If fewer bits pass index 0 than two words have, or at most
+//! so many pass the last index, the one or two words that they come to are computed first, and then
+//! a shift moves the other bits. Else whole words are rotated first, by three reversals.
 
 ghost use Rattle.std.specs.Prelude.{◌≡◌, ◌+◌, ◌*◌, ◌<◌, ◌≤◌};
 ghost use Rattle.bittle_ext.specs.Rotations.{exchanged, HasWordsOf, mirrored_within};

@@ -256,7 +256,7 @@ pub trait BitsViewExt: Bits {
     /// the two sets may differ in type. All else is as with [`or_unlike`](BitsViewExt::or_unlike).
     ///
     /// ```
-    /// 0x8000_0000u32.xor_unlike(&[0u8, 0, 0, 0x80, 1]).iter_ones(); // yields 24, 31, 32
+    /// 0x8000_0000u32.xor_unlike(&[0u8, 0, 0, 1, 1]).iter_ones(); // yields 24, 31, 32
     /// ```
     #[inline]
     final fn xor_unlike<'a, B: Bits>(
