@@ -13,12 +13,14 @@ use std::fmt::Write;
 use std::process::Abort;
 use std::test::Fail;
 
-// Checks the binary text of a set.
+// Checks the binary text of a set, without and with flags of the format.
 fn reads<B: Bits>(rt: &impl Abort, alloc: Global, set: &B, text: &str) -> Result<(), AllocError>
     requires { ShapeFits B.Shape set.now }
 {
     let made = format!(in alloc; "{}", set.binary_text())?;
     crate::checks::end_unless_equal(rt, "the text of the set", made.as_str(), text);
+    let flagged = format!(in alloc; "{:>+#080}", set.binary_text())?;
+    crate::checks::end_unless_equal(rt, "the text with flags", flagged.as_str(), text);
     Ok(())
 }
 

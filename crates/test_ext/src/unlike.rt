@@ -34,6 +34,18 @@ fn a_byte_and_a_wider_word(rt: HostRuntime) {
 }
 
 #[test]
+fn the_documented_examples_of_a_word_and_a_row_of_bytes(rt: HostRuntime) {
+    // `word` has the member 31, and `row` has 24 and 32.
+    let (word, row) = (0x8000_0000u32, [0u8, 0, 0, 1, 1]);
+    let expected = [Some(24), Some(31), Some(32), None];
+    combines(&rt, UNLIKE, &word, &row, [FRONT; 4], expected);
+    // `high` has the member 32.
+    let high = [0u8, 0, 0, 0, 1];
+    let expected = [Some(31), Some(32), None];
+    combines(&rt, UNION, &word, &high, [FRONT; 3], expected);
+}
+
+#[test]
 fn a_byte_and_a_row_of_long_words_from_both_ends(rt: HostRuntime) {
     // `byte` has the members 0 and 7, and `row` has 1, 7, 8 and 64.
     let (byte, row) = (0x81u8, [0x0182u64, 1]);
