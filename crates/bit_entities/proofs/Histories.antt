@@ -4,7 +4,7 @@ use Rattle.std.proofs.Common.{◌≡◌, ◌≢◌, ℕ, zero, suc, ◌<◌, ◌
 use Rattle.std.specs.Prelude.{slice_get}
 use Rattle.std.proofs.lemmas.Bool.{cases_eq, cases_Bool, eq-eqb, ne_eqb, eqb-true, lt-ltb, and_parts, true≢false}
 use Rattle.bit_entities.specs.Entities.{World, IsWorld, least_dead, may_have, without_entity, with_component, with_spawned, answer_to, world_after, event_answers, final_world}
-use Rattle.bit_entities.specs.EntityLaws.{IsAnsweredAt, IsKeptFrom}
+use Rattle.bit_entities.specs.EntityLaws.{IsAnsweredAt, IsKeptFrom, IsRemoved}
 use Rattle.bit_entities.specs.declared.Event.{Event}
 use Rattle.bit_entities.specs.declared.Event.TheVariants.{Spawn, Remove, Attach, Detach}
 use Rattle.bit_entities.specs.declared.Answer.{Answer}
@@ -64,10 +64,19 @@ lives_on w (Detach other component) entity lives = inl (by (may_have w other com
     by true = lives
     by false = lives
 
+-- what event k of a list removes, event k + 1 removes once another event comes first
+after_one : (w : World) (event : Event) (events : List Event) (entity k : ℕ) →
+    IsRemoved (world_after w event) events k entity → IsRemoved w (event ∷ events) (suc k) entity
+unfolding event_answers
+after_one w event events entity k removed = record {
+  asked = removed.asked;
+  answered = removed.answered;
+}
+
 -- a living entity is spawned again only after its removal
 removed_first : (w : World) (events : List Event) (entity : ℕ) → w.alive.has entity ≡ true →
     (j : ℕ) → slice_get (event_answers w events) j ≡ Some (Spawned entity) →
-    (k : ℕ) × (k < j) × (slice_get events k ≡ Some (Remove entity))
+    (k : ℕ) × (k < j) × IsRemoved w events k entity
 unfolding event_answers
 removed_first w [] entity lives j e = absurd (cc)
 removed_first w (event ∷ events) entity lives zero e =
@@ -78,14 +87,21 @@ removed_first w (event ∷ events) entity lives (suc j) e =
     elim (lives_on w event entity lives) [
       | inl on ↦
           let later = removed_first (world_after w event) events entity on j e in
-          (suc later.0, omega (arith, later.1), later.2)
-      | inr removed ↦ (zero, omega arith, ap Some removed)
+          (suc later.0, omega (arith, later.1), after_one w event events entity later.0 later.2)
+      | inr removed ↦ (
+        zero,
+        omega arith,
+        record {
+          asked = ap Some removed;
+          answered = ap Some (ap (answer_to w) removed ∙ ap (λ b. cond b Done Refused) lives);
+        },
+      )
     ]
 
 pub removed_between : (w : World) (events : List Event) (entity i j : ℕ) → i < j →
     slice_get (event_answers w events) i ≡ Some (Spawned entity) →
     slice_get (event_answers w events) j ≡ Some (Spawned entity) →
-    (k : ℕ) × (i < k) × (k < j) × (slice_get events k ≡ Some (Remove entity))
+    (k : ℕ) × (i < k) × (k < j) × IsRemoved w events k entity
 unfolding event_answers
 removed_between w events entity i zero h a b = absurd (omega arith)
 removed_between w [] entity i (suc j) h a b = absurd (cc)
@@ -93,11 +109,19 @@ removed_between w (event ∷ events) entity zero (suc j) h a b =
     let is : answer_to w event ≡ Spawned entity = cc in
     let lives = number_now w.alive entity true _
     (ap (λ t. t.alive) (spawned_is w event entity is).1) in
-    let later = removed_first (world_after w event) events entity lives j b in
-    (suc later.0, omega arith, omega (arith, later.1), later.2)
+    let later = removed_first (world_after w event) events entity lives j b in (
+      suc later.0,
+      omega arith,
+      omega (arith, later.1),
+      after_one w event events entity later.0 later.2,
+    )
 removed_between w (event ∷ events) entity (suc i) (suc j) h a b =
-    let later = removed_between (world_after w event) events entity i j (omega arith) a b in
-    (suc later.0, omega (arith, later.1), omega (arith, later.2), later.3)
+    let later = removed_between (world_after w event) events entity i j (omega arith) a b in (
+      suc later.0,
+      omega (arith, later.1),
+      omega (arith, later.2),
+      after_one w event events entity later.0 later.3,
+    )
 
 module _ (entity component : ℕ) where
   -- the event removes the entity, or detaches the component from it

@@ -61,6 +61,11 @@ AnswersAreOfTheirWorlds =
     → slice_get (event_answers w events) i ≡ Some reply
     → IsAnsweredAt w events i reply
 
+-- event k of a list removed the entity
+pub record IsRemoved (w : World) (events : List Event) (k entity : ℕ) : Type 0 where
+  pub asked : slice_get events k ≡ Some (Remove entity)
+  pub answered : slice_get (event_answers w events) k ≡ Some Done
+
 -- a number that is spawned again was removed since it was last spawned
 abbrev pub SpawnedAreRemovedBetween : Type 0
 SpawnedAreRemovedBetween =
@@ -68,7 +73,7 @@ SpawnedAreRemovedBetween =
     → i < j
     → slice_get (event_answers w events) i ≡ Some (Spawned entity)
     → slice_get (event_answers w events) j ≡ Some (Spawned entity)
-    → (k : ℕ) × (i < k) × (k < j) × (slice_get events k ≡ Some (Remove entity))
+    → (k : ℕ) × (i < k) × (k < j) × IsRemoved w events k entity
 
 -- event k of a list gave the entity the component, and no later event removed the entity or took
 -- the component away
