@@ -1,13 +1,14 @@
-//! Searches whole words for the first bit of a kind: the first set bit or the first unset bit. A
-//! search skips words at both ends if the set knows that they have no such bit, and reads the other
-//! words four at a time.
+//! Searches whole words for the first bit of a kind: the first set bit or the first unset bit. If
+//! the type of the set may know words without such a bit, the search goes word by word and skips
+//! those words. Else it reads four words at a time.
 
 ghost use Rattle.std.specs.Prelude.{◌+◌, ◌*◌, ◌≤◌, ◌↔◌, IsTrue};
 ghost use Rattle.bittle_bits.specs.Searches.{IsFirstIn, NoneIn};
 ghost use Rattle.bittle_bits.specs.Values.{kind_in, ShapeFits};
 
-use crate::end::{Back, Front};
+use crate::end::Front;
 use crate::endian::Endian;
+use crate::internal::search::end_in_words;
 use crate::internal::source::{pass_over, word_of_kind};
 use crate::kind::Kind;
 use crate::read_words::{ReadWords, word_width};
@@ -72,14 +73,17 @@ fn first_by_fours<B: ReadWords, E: Endian, K: Kind>(bits: &B, from: u32, to: u32
 }
 
 /// Returns the least index of a bit of the kind `K` in the first `words` words, or `None` if they
-/// have no such bit. It skips words at both ends if the set knows that they have no such bit.
+/// have no such bit. It skips words of which the set knows that they have no such bit. If the type
+/// of the set may know such words, the others are read one by one, else four at a time.
 #[inline]
 pub fn first_in_words<B: ReadWords, E: Endian, K: Kind>(bits: &B, words: u32) -> Option<u32>
     requires fits { ShapeFits B.Shape bits.now }
     requires within { words * B.width ≤ (B.big bits.now).capacity }
     ensures { IsFirstIn (kind_in B.Shape E.Endian K.Kind bits.now) 0 (words * B.width) result }
 {
-    let low = pass_over::<B, K, Front>(bits, 0, words as usize);
-    let high = pass_over::<B, K, Back>(bits, low, words as usize);
-    first_by_fours::<B, E, K>(bits, low as u32, high as u32)
+    let low = pass_over::<B, K, Front>(bits, 0, words as usize) as u32;
+    if B::may_pass_over() && low < words {
+        return end_in_words::<B, E, K, Front>(bits, low, words - 1, 0);
+    }
+    first_by_fours::<B, E, K>(bits, low, words)
 }

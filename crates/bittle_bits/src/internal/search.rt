@@ -64,12 +64,12 @@ fn next_word<B: ReadWords, K: Kind, N: End>(bits: &B, first: u32, last: u32, k: 
     }
 }
 
-// Searches the words from `first` to `last` for a bit of the kind `K`. If `N` is the front, it
-// returns the least index of such a bit from the place `at` of word `first` on. If `N` is the back,
-// it returns the greatest one up to the place `at` of word `last`. No index is compared with the
-// far end of the range, since this is the end of a word.
+/// Searches the words from `first` to `last` for a bit of the kind `K`. If `N` is the front, it
+/// returns the least index of such a bit from the index `at` of word `first` on. If `N` is the back,
+/// it returns the greatest one up to the index `at` of word `last`. No index is compared with the
+/// far end of the range, since this is the end of a word.
 #[inline]
-fn end_in_words<B: ReadWords, E: Endian, K: Kind, N: End>(
+pub fn end_in_words<B: ReadWords, E: Endian, K: Kind, N: End>(
     bits: &B,
     first: u32,
     last: u32,
@@ -78,7 +78,7 @@ fn end_in_words<B: ReadWords, E: Endian, K: Kind, N: End>(
     requires fits { ShapeFits B.Shape bits.now }
     requires ordered { first ≤ last }
     requires within { last * B.width < (B.big bits.now).capacity }
-    requires place { at < B.width }
+    requires index { at < B.width }
     ensures { IsEndIn N.FRONT (kind_in B.Shape E.Endian K.Kind bits.now)
         (cond N.FRONT (first * B.width + at) (first * B.width))
         (cond N.FRONT (last * B.width + B.width) (last * B.width + at + 1)) result }

@@ -11,7 +11,7 @@ loop-found-init g c =
     let front = g.N.End.FRONT in
     rw c.and-word.ensures (search_start g.K.Kind.ONES _ _ (g.B.Shape.big c.args.bits.now)
     law.width_positive (law.whole_words _)
-    (words_lie front _ _ _ _ c.requires.place c.requires.ordered) front _ _ _ _
+    (words_lie front _ _ _ _ c.requires.index c.requires.ordered) front _ _ _ _
     c.at_end-k.ensures (words_begin front g.B.Shape.width c.args.at) c.word_of_kind.ensures
     (rw law.leaf_width at c.ahead-mask.ensures))
 
@@ -37,7 +37,7 @@ returns-then-away-width g c =
     let member = rw law.leaf_width at c.from_end-away.ensures.member in
     rw (c.at_end.ensures, wide) (search_found g.K.Kind.ONES g.E.Endian.mirrored g.B.Shape.width
     (g.B.Shape.big c.args.bits.now) law.width_positive (law.whole_words _)
-    (words_lie front _ _ _ _ c.requires.place c.requires.ordered) front c.loop-found.k _
+    (words_lie front _ _ _ _ c.requires.index c.requires.ordered) front c.loop-found.k _
     c.from_end-away.result inv member some
     (words_within front _ c.args.first c.args.last c.args.at c.loop-found.k _ inv.first inv.last
     (omega (arith, rw law.leaf_width at c.from_end-away.ensures.within, some))))
@@ -49,7 +49,7 @@ returns-in_default g c =
     let front = g.N.End.FRONT in
     search_ended g.K.Kind.ONES g.E.Endian.mirrored g.B.Shape.width (g.B.Shape.big c.args.bits.now)
     law.width_positive (law.whole_words _)
-    (words_lie front _ _ _ _ c.requires.place c.requires.ordered) front c.loop-found.k _
+    (words_lie front _ _ _ _ c.requires.index c.requires.ordered) front c.loop-found.k _
     c.from_end-away.result (rw c.in_default.is at (c.next_word.ensures g.E.Endian.mirrored))
     c.loop-found.invariant (rw law.leaf_width at c.from_end-away.ensures.member)
     (rw wide at c.if-away-width.false)
@@ -60,7 +60,7 @@ loop-found-preserved g c =
     let wide = c.word_width-width.ensures in
     let front = g.N.End.FRONT in
     search_next _ _ _ _ law.width_positive (law.whole_words _)
-    (words_lie front _ _ _ _ c.requires.place c.requires.ordered) front c.loop-found.k _
+    (words_lie front _ _ _ _ c.requires.index c.requires.ordered) front c.loop-found.k _
     c.from_end-away.result _ _ (rw c.in-Some.is at (c.next_word.ensures g.E.Endian.mirrored))
     c.loop-found.invariant (rw law.leaf_width at c.from_end-away.ensures.member)
     (rw wide at c.if-away-width.false) c.word_of_kind-word.ensures
