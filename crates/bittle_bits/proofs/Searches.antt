@@ -221,16 +221,6 @@ module _ (ones m : Bool) (w : ℕ) (big : PlainSet) (word : 0 < w)
       let next : k * w + (w - r) ≡ o + 1 = omega arith in
       (inside, ltb-true o to both.0, both.1, rw next at (none_up_to false k d r h greatest))
 
-  -- if that member is past the other end, the range has no member
-  pub search_past : (front : Bool) (k d r : ℕ) → Searches front m w t from to p q k d →
-      IsEndMember front (read_in m w (bit_set w d)) r → r ≢ w →
-      let o = k * w + cond front r (w - 1 - r) in
-      cond front (to - 1) o < cond front o from → IsEndIn front t from to None
-  search_past true k d r h least other past = λ j lo hi.
-      none_up_to true k d r h least j lo (omega (arith, past))
-  search_past false k d r h greatest other past = λ j lo hi. none_up_to false k d r h greatest j
-      (omega (arith, past, greatest.within, other)) hi
-
   -- if d has no member, and no word after word k has one, the range has no member
   pub search_ended : (front : Bool) (k d r : ℕ) → IsNextWord front w t p q k None →
       Searches front m w t from to p q k d →

@@ -34,8 +34,8 @@ impl<T: Shape, const N: usize> Shape for [T; N] {
 }
 
 // Changes the array `elements` to the result of the operation `O` on `elements` and `others`. If
-// `others` has at most 128 bytes, it is copied first. The copy cannot overlap `elements`, so the
-// compiled code can process several words at once.
+// the capacity of `others` is at most 1,024 bits, it is copied first. The copy cannot overlap
+// `elements`, so the compiled code can process several words at once.
 #[inline]
 fn combine<T: BitsMut + FixedCapacity + Copy, O: Operation, const N: usize>(
     elements: &mut [T; N],
@@ -102,6 +102,7 @@ impl<T: ReadWords + FixedCapacity, const N: usize> ReadWords for [T; N] {
         row::pass_over::<T, K, F>(self, low, high)
     }
 
+    // The checker does not prove the default in this impl.
     #[inline(always)]
     fn tells_groups<K: Kind>() -> bool {
         false

@@ -35,3 +35,12 @@ pub fn at_end<N: End>(front: u32, back: u32) -> u32
 {
     if N::FRONT { front } else { back }
 }
+
+/// Returns `front` if the end `N` is the front, and else `back`. Each of the two is the number of a
+/// word.
+#[inline(always)]
+pub fn words_at_end<N: End>(front: usize, back: usize) -> usize
+    ensures { result ≡ cond N.FRONT front back }
+{
+    if N::FRONT { front } else { back }
+}

@@ -101,7 +101,7 @@ struct BufferedWord<W: Copy> {
 // rotation. With a multiplication, the compiler would update the product in each turn of a loop
 // over words, but the product is needed only after the loop.
 #[inline(always)]
-fn bits_of<W: Word>(words: usize) -> u32
+fn bit_count<W: Word>(words: usize) -> u32
     requires { words * W.width < 4294967296 }
     ensures { result ≡ words * W.width }
 {
@@ -119,9 +119,9 @@ fn buffered<W: Word, E: Endian, N: End>(word: W, k: usize) -> BufferedWord<W>
     ensures sound { HoldsSound W.Word E.Endian result }
 {
     let first = if N::FRONT {
-        bits_of::<W>(k + 1) - W::width()
+        bit_count::<W>(k + 1) - W::width()
     } else {
-        bits_of::<W>(k)
+        bit_count::<W>(k)
     };
     BufferedWord {
         word,

@@ -16,7 +16,7 @@ ghost use Rattle.bittle_bits.specs.Walk.{ones_or_zeros};
 
 use crate::bits::Bits;
 use crate::bits_mut::BitsMut;
-use crate::end::End;
+use crate::end::{End, words_at_end};
 use crate::endian::Endian;
 use crate::fixed_capacity::FixedCapacity;
 use crate::internal::ends::ends;
@@ -44,8 +44,8 @@ pub fn bits_capacity<T: FixedCapacity>(len: usize) -> u32
     len as u32 * each
 }
 
-/// Returns whether an array of `len` elements is short, which means that it has at most 128 bytes.
-/// The result affects speed only, so this function has no contract.
+/// Returns whether an array of `len` elements is short, which means that its capacity is at most
+/// 1,024 bits. The result affects speed only, so this function has no contract.
 #[inline]
 pub fn is_short<T: FixedCapacity>(len: usize) -> bool {
     bits_capacity::<T>(len) <= 1024
@@ -464,15 +464,6 @@ pub fn set_leaf_word<T: BitsMut + FixedCapacity>(elements: &mut [T], k: usize, w
 {
     let (element, at) = locate_word::<T>(elements.len(), k);
     elements[element].set_nth_leaf_word(at, word);
-}
-
-// Returns `front` if the end `N` is the front, and else `back`. Each of the two is the number of a
-// word.
-#[inline(always)]
-fn words_at_end<N: End>(front: usize, back: usize) -> usize
-    ensures { result ≡ cond N.FRONT front back }
-{
-    if N::FRONT { front } else { back }
 }
 
 // Passes over words at the end `N` of `low..high`, in the one element that lies at that end. The

@@ -7,8 +7,8 @@ use Rattle.bittle_bits.proofs.internal.buffer.buffered.Goals as goal
 -- the first index of word k is k times the width
 first : (g : Over) (c : Joined-is_mirrored g) → c.if-FRONT.first ≡ c.args.k * g.W.Word.width
 first g c = elim c.if-FRONT.branch [
-  | then-FRONT w ↦ w.first-is ∙ omega (arith, w.bits_of.ensures, w.width.ensures)
-  | else-FRONT w ↦ w.first-is ∙ w.bits_of-first.ensures
+  | then-FRONT w ↦ w.first-is ∙ omega (arith, w.bit_count.ensures, w.width.ensures)
+  | else-FRONT w ↦ w.first-is ∙ w.bit_count-first.ensures
 ]
 
 -- the bit of least weight has the index `edge`

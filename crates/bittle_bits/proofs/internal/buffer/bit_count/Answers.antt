@@ -1,8 +1,8 @@
 use Rattle.std.proofs.Common.{◌≡◌, ◌+◌, ◌*◌, ◌∙◌, arith}
 use Rattle.bittle_bits.proofs.RotatedProducts.{rotated_product}
-use Rattle.bittle_bits.proofs.internal.buffer.bits_of.Given.{Over}
-use Rattle.bittle_bits.proofs.internal.buffer.bits_of.Goals.{After-rotate_left}
-use Rattle.bittle_bits.proofs.internal.buffer.bits_of.Goals as goal
+use Rattle.bittle_bits.proofs.internal.buffer.bit_count.Given.{Over}
+use Rattle.bittle_bits.proofs.internal.buffer.bit_count.Goals.{After-rotate_left}
+use Rattle.bittle_bits.proofs.internal.buffer.bit_count.Goals as goal
 
 -- the rotation is the product
 product : (g : Over) (c : After-rotate_left g) →
