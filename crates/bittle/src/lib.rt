@@ -19,7 +19,8 @@
 //! # Words and orders
 //!
 //! An index names a bit. In [`BigEndian`], the default, index 0 is the rightmost bit of a word as
-//! it is written. In [`LittleEndian`] it is the leftmost bit. An index past the capacity wraps.
+//! it is written. In [`LittleEndian`] it is the leftmost bit. An index at or past the capacity
+//! wraps.
 //!
 //! ```rust
 //! let mut word = 0b0010_0010u8;     // bits 1 and 5 are set
@@ -31,7 +32,7 @@
 //!
 //! # Arrays and slices
 //!
-//! An array of sets is a set, to any depth.
+//! An array of sets that own their bits is a set, to any depth.
 //!
 //! ```rust
 //! let mut row = [0u16; 2];          // capacity 32

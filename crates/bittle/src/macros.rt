@@ -18,7 +18,7 @@ use bittle_bits::endian::{BigEndian, Endian, LittleEndian};
 ///
 /// The type of the set has to follow from the context, and has to fit (`bits() < u32::MAX`). Making
 /// the empty set costs O(words). Each index then costs O(1), and each range costs one masked write
-/// for each of its words. An index past the capacity wraps. With capacity 0 the set is empty.
+/// for each of its words. An index at or past the capacity wraps. With capacity 0 the set is empty.
 ///
 /// The macro cannot make a `const`. Write a function that returns the set instead.
 ///
@@ -112,7 +112,7 @@ macro_rules! put_listed {
 }
 
 /// Sets the bits at the indexes `from..to`. The indexes follow the bit order of the type. An index
-/// past the capacity wraps.
+/// at or past the capacity wraps.
 ///
 /// The shape has to fit (`bits_capacity() < u32::MAX`). A range that ends before it starts changes
 /// nothing. With capacity 0 nothing changes.
@@ -140,7 +140,7 @@ pub fn put_until_in<B: BitsMut, E: Endian>(bits: &mut B, from: u32, to: u32)
 }
 
 /// Sets the bits at the indexes `from..=to`. The indexes follow the bit order of the type. An index
-/// past the capacity wraps.
+/// at or past the capacity wraps.
 ///
 /// The shape has to fit (`bits_capacity() < u32::MAX`). A range that ends before it starts changes
 /// nothing. With capacity 0 nothing changes.

@@ -20,9 +20,9 @@ use crate::walk::{Iter, IterOnes, IterZeros};
 
 /// A set of bits, each named by a `u32` index below the capacity.
 ///
-/// The twelve integer types are sets. Arrays of sets, nested to any depth, and slices of sets are
-/// sets too. An index at or past the capacity wraps: it means the index modulo the capacity. With
-/// capacity 0 no bit is set, and no call changes anything.
+/// The twelve integer types are sets. Arrays of sets that own their bits, nested to any depth, and
+/// slices of such sets are sets too. An index at or past the capacity wraps: it means the index
+/// modulo the capacity. With capacity 0 no bit is set, and no call changes anything.
 ///
 /// A shape (an integer, an array, or a slice of some length) *fits* if its capacity is below
 /// `u32::MAX`, and so is the capacity of each array type in it. `bits_capacity() < u32::MAX` checks
@@ -85,7 +85,7 @@ pub trait Bits: Drop + ReadWords {
     /// Returns `true` if no bit is set. With capacity 0 it returns `true`.
     ///
     /// Always callable. It reads words, at most eight at a time, until one of them decides the
-    /// result. But an array of at most 128 bytes is read as a whole or not at all.
+    /// result. But an array with a capacity of at most 1,024 bits is read as a whole or not at all.
     ///
     /// ```
     /// [0u8; 4].all_zeros();                               // true
@@ -98,7 +98,7 @@ pub trait Bits: Drop + ReadWords {
     /// Returns `true` if each bit is set. With capacity 0 it returns `true`.
     ///
     /// Always callable. It reads words, at most eight at a time, until one of them decides the
-    /// result. But an array of at most 128 bytes is read as a whole or not at all.
+    /// result. But an array with a capacity of at most 1,024 bits is read as a whole or not at all.
     ///
     /// ```
     /// [255u8; 4].all_ones();                              // true
@@ -108,8 +108,8 @@ pub trait Bits: Drop + ReadWords {
         ensures in_each_order { (mirrored : Bool) → result
             ≡ (size (set_mirrored Self.Shape mirrored self.now) == (Self.big self.now).capacity) };
 
-    /// Returns `true` if the bit at `index` is set. Indexes follow the bit order `E`. An index past
-    /// the capacity wraps. With capacity 0 the call returns `false`.
+    /// Returns `true` if the bit at `index` is set. Indexes follow the bit order `E`. An index at
+    /// or past the capacity wraps. With capacity 0 the call returns `false`.
     ///
     /// The type has to fit (`bits_capacity() < u32::MAX`). For a slice, only its element type has
     /// to fit. The call costs O(1).

@@ -18,8 +18,8 @@ pub trait BitsMut: Bits {
     /// Sets the bit at `index`. Indexes follow the bit order `E`. No other bit changes.
     ///
     /// The type has to fit (`bits_capacity() < u32::MAX`). For a slice, only its element type has
-    /// to fit. An index past the capacity wraps. With capacity 0 nothing changes. The call costs
-    /// O(1).
+    /// to fit. An index at or past the capacity wraps. With capacity 0 nothing changes. The call
+    /// costs O(1).
     ///
     /// ```
     /// let mut word = 0u8;
@@ -35,8 +35,8 @@ pub trait BitsMut: Bits {
     /// bit changes.
     ///
     /// The type has to fit (`bits_capacity() < u32::MAX`). For a slice, only its element type has
-    /// to fit. An index past the capacity wraps. With capacity 0 nothing changes. The call costs
-    /// O(1).
+    /// to fit. An index at or past the capacity wraps. With capacity 0 nothing changes. The call
+    /// costs O(1).
     ///
     /// ```
     /// let mut word = 0b1000_0001u8;

@@ -63,8 +63,8 @@ pub trait BitsOwned: Copy + Eq + BitsMut + FixedCapacity {
     /// Returns a copy of the set in which the bit at index `bit` is set. Indexes follow the bit
     /// order `E`.
     ///
-    /// The type has to fit (`Self::bits() < u32::MAX`). An index past the capacity wraps. With
-    /// capacity 0 the call returns the same set.
+    /// The type has to fit (`Self::bits() < u32::MAX`). An index at or past the capacity wraps.
+    /// With capacity 0 the call returns the same set.
     ///
     /// ```
     /// 0u8.with_bit_in::<LittleEndian>(0);                 // 0b1000_0000
@@ -128,8 +128,8 @@ pub trait BitsOwned: Copy + Eq + BitsMut + FixedCapacity {
     /// Returns a copy of the set in which the bit at index `bit` is unset. Indexes follow the bit
     /// order `E`.
     ///
-    /// The type has to fit (`Self::bits() < u32::MAX`). An index past the capacity wraps. With
-    /// capacity 0 the call returns the same set.
+    /// The type has to fit (`Self::bits() < u32::MAX`). An index at or past the capacity wraps.
+    /// With capacity 0 the call returns the same set.
     ///
     /// ```
     /// 255u8.without_bit_in::<LittleEndian>(0);            // 0b0111_1111

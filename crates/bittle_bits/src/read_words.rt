@@ -19,7 +19,7 @@ use crate::word::Word;
 /// Searches, counts and iterators read sets through this trait. So each of them is written once,
 /// for all shapes and for all views of sets.
 pub trait ReadWords: Drop + Shape {
-    /// Returns `true` if all values of the type have the same number of words.
+    /// Returns `true` only if all values of the type have the same number of words.
     ///
     /// It affects speed only, so it has no contract. It decides how an iterator begins, and whether
     /// a comparison of two sets begins with their first words alone.
@@ -31,8 +31,9 @@ pub trait ReadWords: Drop + Shape {
 
     /// Returns `true` if `pass_over` of a value of the type may skip words.
     ///
-    /// It affects speed only, so it has no contract. It decides whether an array or a slice calls
-    /// `pass_over` on its elements.
+    /// It affects speed only, so it has no contract. It decides whether an array, a slice or a view
+    /// of two sets calls `pass_over` of its parts, and how a search goes on after a word without a
+    /// bit of the kind.
     #[doc(hidden)]
     #[inline(always)]
     fn may_pass_over() -> bool {
@@ -76,7 +77,7 @@ pub trait ReadWords: Drop + Shape {
         if N::FRONT { low } else { high }
     }
 
-    /// Returns `true` if `groups_told` of a value of the type may leave a bit unset.
+    /// Returns `true` only if `groups_told` of a value of the type may leave a bit unset.
     ///
     /// It affects speed only, so it has no contract. It decides whether a view of two sets combines
     /// the results of `groups_told` of both sets, or calls `pass_over` of each set.
@@ -90,8 +91,8 @@ pub trait ReadWords: Drop + Shape {
     /// words. Bit `i` of the result is unset only if group `64 * n + i` has no bit of the kind `K`.
     /// A group past the last word has no bit.
     ///
-    /// It affects speed only. Most shapes set all 64 bits. A type whose values may leave a bit
-    /// unset returns `true` from `tells_groups`.
+    /// It affects speed only. Most shapes set all 64 bits. A type that returns `true` from
+    /// `tells_groups` leaves such bits unset.
     #[doc(hidden)]
     #[inline(always)]
     #[tactic(auto, using(crate::proofs::WordGroups::none_told))]

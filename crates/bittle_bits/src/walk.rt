@@ -183,7 +183,7 @@ impl<'a, B: ReadWords, E: Endian, K: Kind> Counted for Iter<'a, B, E, K> {
 /// unset bits.
 ///
 /// Each step yields the first or the last item that remains. Once no item remains, steps from both
-/// ends return `None`. A clone yields the items that remain in its source.
+/// ends return `None`. A clone yields the items that remained in the original when it was cloned.
 #[derive(Drop)]
 pub struct IntoIter<B: Shape, E: Endian, K: Kind> {
     source: OwnedSource<B>,

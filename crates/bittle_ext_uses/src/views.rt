@@ -169,7 +169,7 @@ pub fn first_free_run(word: u64, length: u32) -> Option<u32>
     word.complement_view().first_one_run(length)
 }
 
-/// Returns whether bit `index` is set in both of two rows. An index past the capacity wraps.
+/// Returns whether bit `index` is set in both of two rows. An index at or past the capacity wraps.
 pub fn is_in_both(one: &[u32; 4], other: &[u32; 4], index: u32) -> bool
     ensures { result ≡ contains (both_of (row_set 4 32 (bit_set 32) one.now)
         (row_set 4 32 (bit_set 32) other.now)) index }

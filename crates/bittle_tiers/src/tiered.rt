@@ -269,8 +269,8 @@ impl<B: Bits + FixedCapacity, S: ReadWords + FixedCapacity, K: Kind> Bits for Ti
     }
 }
 
-// Sets the bit at `index` if `V` is `Ones`, and else clears it. An index past the capacity wraps.
-// Then updates the summary for the word of that bit.
+// Sets the bit at `index` if `V` is `Ones`, and else clears it. An index at or past the capacity
+// wraps. Then updates the summary for the word of that bit.
 #[inline]
 fn put_bit<B: BitsMut + FixedCapacity, S: BitsOwned, K: Kind, E: Endian, V: Kind>(
     tiered: &mut Tiered<B, S, K>,

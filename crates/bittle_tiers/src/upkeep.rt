@@ -31,7 +31,8 @@ fn has_some<B: ReadWords, K: Kind>(map: &B, k: usize) -> bool
     !is_without_bits::<B::LeafWord>(word_of_kind::<B, K>(map, k))
 }
 
-/// Sets the bit at `index` if `V` is `Ones`, and else clears it. An index past the capacity wraps.
+/// Sets the bit at `index` if `V` is `Ones`, and else clears it. An index at or past the capacity
+/// wraps.
 #[inline]
 pub(crate) fn put_bit<B: BitsMut, E: Endian, V: Kind>(map: &mut B, index: u32)
     requires { IsTrue B.indexable }

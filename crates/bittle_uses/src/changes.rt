@@ -8,7 +8,7 @@ ghost use Rattle.bittle.specs.Values.{set_in};
 use bittle::BitsMut;
 use bittle_ext::BitsMutExt;
 
-/// Sets the bit at `index`, and returns whether that bit was unset before. An index past the
+/// Sets the bit at `index`, and returns whether that bit was unset before. An index at or past the
 /// capacity wraps. With capacity 0 the call returns `true`, and nothing changes.
 pub fn insert<B: BitsMut>(set: &mut B, index: u32) -> bool
     requires { IsTrue B.indexable }
@@ -20,7 +20,7 @@ pub fn insert<B: BitsMut>(set: &mut B, index: u32) -> bool
     set.insert(index)
 }
 
-/// Clears the bit at `index`, and returns whether that bit was set before. An index past the
+/// Clears the bit at `index`, and returns whether that bit was set before. An index at or past the
 /// capacity wraps. With capacity 0 the call returns `false`.
 pub fn remove<B: BitsMut>(set: &mut B, index: u32) -> bool
     requires { IsTrue B.indexable }
@@ -33,7 +33,7 @@ pub fn remove<B: BitsMut>(set: &mut B, index: u32) -> bool
 }
 
 /// If the bit at `from` is set, clears it and then sets the bit at `to`. Otherwise nothing changes.
-/// An index past the capacity wraps.
+/// An index at or past the capacity wraps.
 pub fn move_bit<B: BitsMut>(set: &mut B, from: u32, to: u32)
     requires { IsTrue B.indexable }
     ensures set { let before = set_in B.Shape B.Order.Endian set.old in

@@ -98,8 +98,8 @@ fn has<B: Bits, E: Endian>(bits: &B, capacity: u32, index: u32) -> bool
     test_bit::<B::LeafWord, E>(bits.nth_leaf_word((index / width) as usize), index % width)
 }
 
-// Returns whether some member is greater than `index`, which is not a member itself. The search
-// begins at `index`, since `index + 1` may be past the last word of the set.
+// Returns whether some member is greater than `index`, which is not a member itself. The search may
+// begin at `index`, since this index is not a member.
 #[inline]
 fn has_past<B: Bits, E: Endian>(bits: &B, capacity: u32, index: u32) -> bool
     requires fits { ShapeFits B.Shape bits.now }
@@ -209,7 +209,8 @@ impl<T: Bits, E: Endian> Set<T, E> {
     ///
     /// The shape of `other` has to fit (`bits_capacity() < u32::MAX`). Each set is read in its own
     /// bit order: this set in `E`, and `other` in `U::Order`. The call compares words, or items of
-    /// iterators, up to the first difference.
+    /// iterators, up to the first difference. It then searches the set that lacks this index for a
+    /// greater member, up to the first one.
     ///
     /// ```
     /// Set::new(1u8).cmp_bits(&3u16);                      // Less
