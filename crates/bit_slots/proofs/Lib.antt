@@ -1,4 +1,5 @@
 pub mod KeyHistories
 pub mod RowEntries
 pub mod SlotChanges
+pub mod SlotCounts
 pub mod SlotMarks

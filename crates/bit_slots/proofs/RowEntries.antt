@@ -62,7 +62,7 @@ none_found false true value e = cc
 none_found false false value e = cc
 
 -- if a generation of a slot finds a value, the slot holds the value in that generation
-holds_is : {V : Type 0} (slot : Slot V) (generation : ℕ) (value : V) →
+pub holds_is : {V : Type 0} (slot : Slot V) (generation : ℕ) (value : V) →
     found (stage_of slot generation) ≡ Some value → slot ≡ Live generation value
 holds_is (Free current) generation value is =
     absurd (none_found (nat_lt generation current) (generation == current) value is)

@@ -1,6 +1,6 @@
 -- The sets of the slots that pass a test, such as being free.
 use Rattle.std.specs.Prelude.{◌≡◌, ◌==◌, ◌&&◌, ◌||◌, ℕ, Bool, true, false, not, nat_lt, List, slice_get, Option, Some, None}
-use Rattle.bittle.specs.PlainSet.{PlainSet}
+use Rattle.bittle.specs.PlainSet.{PlainSet, size}
 use Rattle.bit_slots.specs.declared.slot.Slot.{Slot}
 use Rattle.bit_slots.specs.declared.slot.Slot.TheVariants.{Free, Live, Retired}
 
@@ -28,6 +28,10 @@ is_slot test row slot = passes test (slice_get row slot)
 -- the set of the slots of a row that pass the test
 abbrev pub slots_where : {V : Type 0} → (Slot V → Bool) → ℕ → List (Slot V) → PlainSet
 slots_where test c row = record { capacity = c; has = is_slot test row }
+
+-- how many slots of a row of at most c slots hold a value
+abbrev pub live_count : {V : Type 0} → ℕ → List (Slot V) → ℕ
+live_count c row = size (slots_where is_live c row)
 
 -- the members of s are exactly the slots of a row that pass the test
 abbrev pub HasSlots : {V : Type 0} → (Slot V → Bool) → PlainSet → List (Slot V) → Type 0

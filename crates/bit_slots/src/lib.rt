@@ -19,15 +19,16 @@ ghost use Rattle.std.specs.Borrow.{MutBor};
 ghost use Rattle.std.specs.Fn.{FnOnceReturnsAtMut};
 ghost use Rattle.std.specs.List.{All};
 ghost use Rattle.std.specs.Option.{is_some};
-ghost use Rattle.std.specs.Prelude.{◌≡◌, ◌<◌, ◌≤◌, ℕ, suc, false, true, length, None, Some};
-ghost use Rattle.std.specs.Prelude.{option_copied, IfErr, IfOk, IfSome, IsTrue, MatchOption, slice_get};
-ghost use Rattle.bittle.specs.PlainSet.{size};
+ghost use Rattle.std.specs.Prelude.{◌≡◌, ◌+◌, ◌<◌, ◌≤◌, ℕ, suc, false, true, length, None, Some};
+ghost use Rattle.std.specs.Prelude.{option_copied, slice_get, IfErr, IfOk, IfSome, IsTrue};
+ghost use Rattle.std.specs.Prelude.{MatchOption, MatchResult};
+ghost use Rattle.bittle.specs.PlainSet.{ascending};
 ghost use Rattle.bittle.specs.Shapes.{Fits};
 ghost use Rattle.bittle.specs.Values.{set_in};
 ghost use Rattle.bit_slots.specs.Entries.{entries, HasEntry, IsEntry};
 ghost use Rattle.bit_slots.specs.Keys.{stages, found, IsInserted, IsRemoved, IsReplaced, HasKey};
 ghost use Rattle.bit_slots.specs.Keys.{IsUpdated};
-ghost use Rattle.bit_slots.specs.SlotSets.{is_free, is_live, is_slot, slots_where, HasSlots};
+ghost use Rattle.bit_slots.specs.SlotSets.{is_free, is_live, is_slot, live_count, HasSlots};
 
 mod entries;
 #[doc(hidden)]
@@ -67,6 +68,10 @@ impl Key {
 /// A table of values over a row of slots that the caller lends. Changes are made in the lent row.
 /// The table also has two sets: of the free slots, and of the slots that hold a value. Both sets
 /// are read in the bit order of `B`.
+///
+/// No call changes how many slots there are. If a call returns a key, or finds the value of a key,
+/// then the number of the key's slot is a valid index of any array that is as long as the row. So
+/// `uses[slots.insert(value)?.slot() as usize]` is in bounds.
 #[derive(Drop)]
 pub struct Slots<'a, V: Drop, B: BitsOwned> {
     row: Row<'a, V>,
@@ -109,6 +114,11 @@ impl<'a, V: Drop, B: BitsOwned> Slots<'a, V, B> {
             → is_slot is_free self.old.row.slots.now slot ≡ false) }
         ensures full { IfErr result (λ _. (slot : ℕ)
             → is_slot is_free self.old.row.slots.now slot ≡ false) }
+        ensures within { IfOk result (λ key. key.slot < length self.old.row.slots.now) }
+        ensures count { let before = live_count B.type_capacity self.old.row.slots.now in
+            let after = live_count B.type_capacity self.new.row.slots.now in
+            MatchResult result (λ _. after ≡ before + 1) (λ _. after ≡ before) }
+        ensures same_capacity { length self.new.row.slots.now ≡ length self.old.row.slots.now }
         ensures same_row { self.new.row.slots.ghost_name ≡ self.old.row.slots.ghost_name }
     {
         let Some(slot) = self.free.first_one_in::<B::Order>(0, B::bits()) else {
@@ -127,6 +137,11 @@ impl<'a, V: Drop, B: BitsOwned> Slots<'a, V, B> {
         ensures stages { IsRemoved (stages self.old.row.slots.now) key
             (stages self.new.row.slots.now) }
         ensures gone { found (stages self.new.row.slots.now key.slot key.generation) ≡ None }
+        ensures within { IfSome result (λ _. key.slot < length self.old.row.slots.now) }
+        ensures count { let before = live_count B.type_capacity self.old.row.slots.now in
+            let after = live_count B.type_capacity self.new.row.slots.now in
+            MatchOption result (after ≡ before) (λ _. after + 1 ≡ before) }
+        ensures same_capacity { length self.new.row.slots.now ≡ length self.old.row.slots.now }
         ensures same_row { self.new.row.slots.ghost_name ≡ self.old.row.slots.ghost_name }
     {
         let (value, is_free) = self.row.empty(key)?;
@@ -143,6 +158,10 @@ impl<'a, V: Drop, B: BitsOwned> Slots<'a, V, B> {
     pub fn replace(&mut self, key: Key, value: V) -> Result<V, V>
         ensures stages { IsReplaced (stages self.old.row.slots.now) key value result
             (stages self.new.row.slots.now) }
+        ensures within { IfOk result (λ _. key.slot < length self.old.row.slots.now) }
+        ensures count { live_count B.type_capacity self.new.row.slots.now
+            ≡ live_count B.type_capacity self.old.row.slots.now }
+        ensures same_capacity { length self.new.row.slots.now ≡ length self.old.row.slots.now }
         ensures same_row { self.new.row.slots.ghost_name ≡ self.old.row.slots.ghost_name }
     {
         self.row.replace(key, value)
@@ -166,6 +185,10 @@ impl<'a, V: Drop, B: BitsOwned> Slots<'a, V, B> {
             × FnOnceReturnsAtMut F.FnOnce change old tt value }
         ensures stages { IsUpdated (λ old new. FnOnceReturnsAtMut F.FnOnce change old tt new)
             (stages self.old.row.slots.now) key result (stages self.new.row.slots.now) }
+        ensures within { IsTrue result → key.slot < length self.old.row.slots.now }
+        ensures count { live_count B.type_capacity self.new.row.slots.now
+            ≡ live_count B.type_capacity self.old.row.slots.now }
+        ensures same_capacity { length self.new.row.slots.now ≡ length self.old.row.slots.now }
         ensures same_row { self.new.row.slots.ghost_name ≡ self.old.row.slots.ghost_name }
     {
         self.row.update(key, change)
@@ -191,8 +214,7 @@ impl<'a, V: Drop, B: BitsOwned> Slots<'a, V, B> {
         }
     }
 
-    /// Returns the value of a key, or `None` if the key finds no value. If the key finds a value,
-    /// the number of its slot is a valid index of any array that is as long as the row.
+    /// Returns the value of a key, or `None` if the key finds no value.
     pub fn get(&self, key: Key) -> Option<&V>
         ensures value { option_copied result
             ≡ found (stages self.now.row.slots.now key.slot key.generation) }
@@ -217,27 +239,33 @@ impl<'a, V: Drop, B: BitsOwned> Slots<'a, V, B> {
         self.row.slots.len() as u32
     }
 
-    /// Returns how many slots hold a value. It counts the set bits of each word of
-    /// [`live`](Slots::live).
+    /// Returns how many slots hold a value: at most [`capacity`](Slots::capacity). The number grows
+    /// by one if `insert` returns a key, and falls by one if `remove` returns a value. No other
+    /// call changes it. The call counts the set bits of each word of [`live`](Slots::live).
     pub fn len(&self) -> u32
-        ensures { result ≡ size (slots_where is_live B.type_capacity self.now.row.slots.now) }
+        ensures count { result ≡ live_count B.type_capacity self.now.row.slots.now }
+        ensures at_most { result ≤ length self.now.row.slots.now }
     {
         self.live.count_ones()
     }
 
-    /// Returns the set of the slots that hold a value. Iterate over it by `iter_ones`.
+    /// Returns the set of the slots that hold a value. Iterate over it by `iter_ones`, which yields
+    /// numbers below [`capacity`](Slots::capacity).
     pub fn live(&self) -> &B
-        ensures { HasSlots is_live (set_in B.Shape B.Order.Endian result.now)
+        ensures slots { HasSlots is_live (set_in B.Shape B.Order.Endian result.now)
             self.now.row.slots.now }
+        ensures within { All (λ slot. slot < length self.now.row.slots.now)
+            (ascending (set_in B.Shape B.Order.Endian result.now)) }
     {
         &self.live
     }
 
     /// Returns the key of the value that a slot holds, or `None` if the slot holds no value.
     pub fn key_at(&self, slot: u32) -> Option<Key>
-        ensures { MatchOption result
+        ensures key { MatchOption result
             (is_slot is_live self.now.row.slots.now slot ≡ false)
             (λ key. HasKey self.now.row.slots.now slot key) }
+        ensures within { IfSome result (λ key. key.slot < length self.now.row.slots.now) }
     {
         self.row.key_at(slot)
     }

@@ -4,7 +4,7 @@ ghost use Rattle.std.specs.Borrow.{MutBor};
 ghost use Rattle.std.specs.Fn.{FnOnceReturnsAtMut};
 ghost use Rattle.std.specs.Option.{is_some};
 ghost use Rattle.std.specs.Prelude.{◌≡◌, ◌<◌, ◌≤◌, false, None, Some, true, cond, length};
-ghost use Rattle.std.specs.Prelude.{option_copied, IfSome, IsTrue, MatchBool, MatchOption};
+ghost use Rattle.std.specs.Prelude.{option_copied, IfOk, IfSome, IsTrue, MatchBool, MatchOption};
 ghost use Rattle.bit_slots.specs.Keys.{stages, found, IsKeyInserted, IsRemoved, IsReplaced, IsUpdated, HasKey};
 ghost use Rattle.bit_slots.specs.SlotSets.{is_free, is_live, is_slot, HasSlots};
 ghost use Rattle.bit_slots.specs.SlotSets.{Joins, Leaves, Stays};
@@ -28,6 +28,7 @@ impl<'a, V: Drop> Row<'a, V> {
         requires within { slot < length self.old.slots.now }
         requires free { is_slot is_free self.old.slots.now slot ≡ true }
         ensures slot { result.slot ≡ slot }
+        ensures within { result.slot < length self.old.slots.now }
         ensures stages { IsKeyInserted (stages self.old.slots.now) value result
             (stages self.new.slots.now) }
         ensures free { Leaves is_free self.old.slots.now slot self.new.slots.now }
@@ -67,6 +68,7 @@ impl<'a, V: Drop> Row<'a, V> {
     pub(crate) fn replace(&mut self, key: Key, value: V) -> Result<V, V>
         ensures stages { IsReplaced (stages self.old.slots.now) key value result
             (stages self.new.slots.now) }
+        ensures within { IfOk result (λ _. key.slot < length self.old.slots.now) }
         ensures free { Stays is_free self.old.slots.now self.new.slots.now }
         ensures live { Stays is_live self.old.slots.now self.new.slots.now }
         ensures same_length { length self.new.slots.now ≡ length self.old.slots.now }
@@ -85,6 +87,7 @@ impl<'a, V: Drop> Row<'a, V> {
             → F.pre change value }
         ensures stages { IsUpdated (λ old new. FnOnceReturnsAtMut F.FnOnce change old tt new)
             (stages self.old.slots.now) key result (stages self.new.slots.now) }
+        ensures within { IsTrue result → key.slot < length self.old.slots.now }
         ensures free { Stays is_free self.old.slots.now self.new.slots.now }
         ensures live { Stays is_live self.old.slots.now self.new.slots.now }
         ensures same_length { length self.new.slots.now ≡ length self.old.slots.now }
@@ -98,9 +101,10 @@ impl<'a, V: Drop> Row<'a, V> {
 
     // Returns the key of the value that a slot holds.
     pub(crate) fn key_at(&self, slot: u32) -> Option<Key>
-        ensures { MatchOption result
+        ensures key { MatchOption result
             (is_slot is_live self.now.slots.now slot ≡ false)
             (λ key. HasKey self.now.slots.now slot key) }
+        ensures within { IfSome result (λ key. key.slot < length self.now.slots.now) }
     {
         match self.slots.get(slot as usize)? {
             Slot::Live(generation, _) => Some(Key {

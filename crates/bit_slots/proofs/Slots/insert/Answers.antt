@@ -1,15 +1,22 @@
-use Rattle.std.proofs.Common.{◌<◌, sym, ◌∙◌, arith}
+use Rattle.std.proofs.Common.{◌≡◌, ◌<◌, true, sym, ◌∙◌, arith}
 use Rattle.bit_slots.proofs.KeyHistories.{key_holds}
 use Rattle.bittle.specs.PlainSet.{PlainSet}
 use Rattle.bittle.specs.Values.{set_in}
-use Rattle.bit_slots.specs.SlotSets.{is_free, is_live}
+use Rattle.bit_slots.specs.SlotSets.{is_free, is_live, is_slot}
+use Rattle.bit_slots.proofs.SlotCounts.{count_joins, free_lacks}
 use Rattle.bit_slots.proofs.SlotMarks.{slot_within, marks_with, marks_without}
+use Rattle.bit_slots.proofs.Slots.insert.Given.{Over}
+use Rattle.bit_slots.proofs.Slots.insert.Goals.{In-Some}
 use Rattle.bit_slots.proofs.Slots.insert.Goals as goal
 
+-- the slot that was found is free
+was_free : (g : Over) (c : In-Some g) →
+    is_slot is_free c.args.self.now.row.slots.now c.in-Some.slot ≡ true
+was_free g c = sym (c.args.self.now.marks_free c.in-Some.slot) ∙ c.in-Some.ensures.2
+
 pub fill-key-requires-clause-within : goal.fill-key-requires-clause-within
-fill-key-requires-clause-within g c =
-    slot_within is_free _ c.in-Some.slot
-    (sym (c.args.self.now.marks_free c.in-Some.slot) ∙ c.in-Some.ensures.2)
+fill-key-requires-clause-within g c = slot_within is_free _ c.in-Some.slot
+    (was_free g (goal.at.fill-key-requires-clause-within g c).In-Some)
 
 pub invariant_of-self : goal.invariant_of-self
 invariant_of-self g c =
@@ -33,3 +40,12 @@ invariant_of-self g c =
 
 pub returns-clause-holds : goal.returns-clause-holds
 returns-clause-holds g c = key_holds _ _ _ c.fill-key.result c.fill-key.ensures.stages
+
+pub returns-clause-count : goal.returns-clause-count
+returns-clause-count g c =
+    let old = c.args.self.now in
+    let slot = c.in-Some.slot in
+    count_joins is_live _ _ _ slot
+    (omega (arith, c.bits.ensures.value old.fits, c.in-Some.ensures.1))
+    (free_lacks old.row.slots.now slot (was_free g (goal.at.returns-clause-count g c).In-Some))
+    c.fill-key.ensures.live

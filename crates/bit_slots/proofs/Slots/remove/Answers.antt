@@ -4,6 +4,7 @@ use Rattle.bit_slots.proofs.KeyHistories.{key_gone}
 use Rattle.bittle.specs.PlainSet.{PlainSet}
 use Rattle.bittle.specs.Values.{set_in}
 use Rattle.bit_slots.specs.SlotSets.{is_free, is_live}
+use Rattle.bit_slots.proofs.SlotCounts.{count_leaves, found_holds}
 use Rattle.bit_slots.proofs.SlotMarks.{marks_same, marks_with, marks_without}
 use Rattle.bit_slots.proofs.Slots.remove.Goals as goal
 
@@ -45,3 +46,17 @@ invariant_of-self-2 g c =
 
 pub returns-clause-gone : goal.returns-clause-gone
 returns-clause-gone g c = key_gone _ _ c.args.key c.in_ok-value.ensures.stages
+
+pub returns-then-not-is_free-clause-count : goal.returns-then-not-is_free-clause-count
+returns-then-not-is_free-clause-count g c =
+    let out = c.in_ok-value.ensures in
+    count_leaves is_live _ _ _ c.args.key.slot (omega (arith, c.args.self.now.covers, out.within))
+    (found_holds c.args.self.now.row.slots.now c.args.key.slot c.args.key.generation _ out.found)
+    out.live
+
+pub returns-clause-count : goal.returns-clause-count
+returns-clause-count g c =
+    let out = c.in_ok-value.ensures in
+    count_leaves is_live _ _ _ c.args.key.slot (omega (arith, c.args.self.now.covers, out.within))
+    (found_holds c.args.self.now.row.slots.now c.args.key.slot c.args.key.generation _ out.found)
+    out.live

@@ -1,0 +1,76 @@
+-- How many slots of a row pass a test, and which numbers name them.
+use Rattle.std.proofs.Common.{◌≡◌, ℕ, zero, suc, ◌+◌, ◌<◌, ◌≤◌, Bool, true, false, cond, List, length, Option, Some, None, inl, inr, refl, sym, ap, ◌∙◌, arith}
+use Rattle.std.specs.Prelude.{slice_get}
+use Rattle.std.specs.List.{All}
+use Rattle.std.proofs.lemmas.Bool.{cases_lt}
+use Rattle.std.proofs.lemmas.List.{get_or_default}
+use Rattle.std.proofs.lemmas.Option.{slice_get_past}
+use Rattle.bittle.specs.PlainSet.{PlainSet, ascending, count_below, size}
+use Rattle.bittle.proofs.CallerChanges.{size_added, size_removed}
+use Rattle.bittle.proofs.CallerLists.{ascending_member}
+use Rattle.bittle.proofs.CallerSets.{size_at_most}
+use Rattle.bit_slots.specs.declared.slot.Slot.{Slot}
+use Rattle.bit_slots.specs.declared.slot.Slot.TheVariants.{Free, Live, Retired}
+use Rattle.bit_slots.specs.Keys.{found, stage_at, stages}
+use Rattle.bit_slots.specs.SlotSets.{is_free, is_live, is_slot, passes, slots_where, HasSlots, Joins, Leaves, Stays}
+use Rattle.bit_slots.proofs.RowEntries.{holds_is}
+use Rattle.bit_slots.proofs.SlotMarks.{slot_within}
+
+-- a free slot holds no value
+pub free_lacks : {V : Type 0} (row : List (Slot V)) (slot : ℕ) →
+    is_slot is_free row slot ≡ true → is_slot is_live row slot ≡ false
+free_lacks {V = V} row slot free = by (slice_get row slot) free
+  where
+    by : (place : Option (Slot V)) → passes is_free place ≡ true → passes is_live place ≡ false
+    by None e = refl
+    by (Some (Free generation)) e = refl
+    by (Some (Live generation value)) e = absurd (cc)
+    by (Some Retired) e = refl
+
+-- the slot of a key that finds a value holds a value
+pub found_holds : {V : Type 0} (row : List (Slot V)) (slot generation : ℕ) (value : V) →
+    found (stages row slot generation) ≡ Some value → is_slot is_live row slot ≡ true
+found_holds {V = V} row slot generation value is = by (slice_get row slot) is
+  where
+    by : (place : Option (Slot V)) → found (stage_at place generation) ≡ Some value →
+        passes is_live place ≡ true
+    by None e = absurd (cc)
+    by (Some s) e = ap is_live (holds_is s generation value e)
+
+module _ {V : Type 0} (test : Slot V → Bool) (row : List (Slot V)) where
+  -- no more slots pass than there are
+  pub count_at_most : (c : ℕ) → size (slots_where test c row) ≤ length row
+  unfolding count_below
+  count_at_most zero = omega arith
+  count_at_most (suc c) = elim (cases_lt c (length row)) [
+    | inl l ↦ omega (arith, l, size_at_most (slots_where test (suc c) row))
+    | inr g ↦
+        let none : is_slot test row c ≡ false = ap (passes test) (slice_get_past row c g) in
+        omega (arith, count_at_most c, ap {B = ℕ} (λ b. cond b 1 0) none)
+  ]
+
+  -- each member of the set of the slots that pass is a slot of the row
+  pub members_within : (s : PlainSet) → HasSlots test s row →
+      All (λ slot. slot < length row) (ascending s)
+  members_within s marks k d h =
+      let member = ap s.has (get_or_default _ k d 0 h) ∙ ascending_member s k h in
+      slot_within test row _ (sym (marks _) ∙ member)
+
+  module _ (c : ℕ) (next : List (Slot V)) where
+    -- if the same slots pass, as many pass
+    pub count_stays : Stays test row next →
+        size (slots_where test c next) ≡ size (slots_where test c row)
+    count_stays same = ap size (λ p. record { capacity = c; has = λ k. same k p })
+
+    -- if a slot joins those that pass, one more passes
+    pub count_joins : (i : ℕ) → i < c → is_slot test row i ≡ false → Joins test row i next →
+        size (slots_where test c next) ≡ size (slots_where test c row) + 1
+    count_joins i h none joined = ap size (λ p. record { capacity = c; has = λ k. joined k p })
+        ∙ size_added (slots_where test c row) i h none
+
+    -- if a slot leaves those that pass, one fewer passes
+    pub count_leaves : (i : ℕ) → i < c → is_slot test row i ≡ true → Leaves test row i next →
+        size (slots_where test c next) + 1 ≡ size (slots_where test c row)
+    count_leaves i h some left =
+        ap (λ n. n + 1) (ap size (λ p. record { capacity = c; has = λ k. left k p }))
+        ∙ sym (size_removed (slots_where test c row) i h some)
