@@ -1,12 +1,14 @@
-//! Callers of slots with generations: iterators over the values, and tables beside the slots.
+//! Callers of slots with generations: iterators over the values, tables beside the slots, and
+//! counts.
 
-ghost use Rattle.std.specs.Prelude.{◌≡◌, ◌≢◌, ◌≤◌, ℕ, false, length, map, slice_get, sum, true};
-ghost use Rattle.std.specs.Prelude.{IfSome, Some};
+ghost use Rattle.std.specs.Prelude.{◌≡◌, ◌≢◌, ◌+◌, ◌≤◌, ℕ, false, length, map, slice_get, sum};
+ghost use Rattle.std.specs.Prelude.{true, IfOk, IfSome, Some};
 ghost use Rattle.bit_slots.specs.Entries.{entries};
 ghost use Rattle.bit_slots.specs.Keys.{found, stages};
+ghost use Rattle.bit_slots.specs.SlotSets.{live_count};
 
 use bit_slots::{Key, Slots};
-use bittle::BitsOwned;
+use bittle::{Bits, BitsOwned};
 
 /// Returns a key that finds the value `wanted`, or `None` if no key finds it.
 pub fn key_of<B: BitsOwned>(slots: &Slots<u64, B>, wanted: u64) -> Option<Key>
@@ -66,4 +68,121 @@ pub fn count_use<V: Drop, B: BitsOwned>(slots: &Slots<V, B>, uses: &mut [u64], k
         uses[slot] = uses[slot].saturating_add(1);
     }
     is_there
+}
+
+/// Inserts a value, and counts one more use in the entry of `uses` at the index of its slot, unless
+/// that entry is `u64::MAX`. Returns the entry, or the value in `Err` if no slot is free. The table
+/// has an entry for each slot.
+pub fn insert_used<V: Drop, B: BitsOwned>(
+    slots: &mut Slots<V, B>,
+    uses: &mut [u64],
+    value: V,
+) -> Result<u64, V>
+    requires { length slots.old.row.slots.now ≤ length uses.old }
+    ensures { length uses.new ≡ length uses.old }
+{
+    let slot = slots.insert(value)?.slot() as usize;
+    uses[slot] = uses[slot].saturating_add(1);
+    Ok(uses[slot])
+}
+
+/// Returns the sum of the uses of the slots that hold a value, but at most `u64::MAX`. The table
+/// has an entry for each slot. The loop reads the set of these slots, and no slot.
+pub fn uses_of_live<V: Drop, B: BitsOwned>(slots: &Slots<V, B>, uses: &[u64]) -> u64
+    requires { length slots.now.row.slots.now ≤ length uses.now }
+{
+    let mut total = 0u64;
+    for slot in slots.live().iter_ones() {
+        total = total.saturating_add(uses[slot as usize]);
+    }
+    total
+}
+
+/// Inserts a value, and returns how many values there are then: one more than before. Returns the
+/// value in `Err` if no slot is free.
+pub fn insert_and_count<V: Drop, B: BitsOwned>(slots: &mut Slots<V, B>, value: V) -> Result<u32, V>
+    ensures { IfOk result (λ count.
+        count ≡ live_count B.type_capacity slots.old.row.slots.now + 1) }
+{
+    slots.insert(value)?;
+    Ok(slots.len())
+}
+
+/// Inserts a value, takes it out again, and returns whether there are as many values as before. The
+/// result is always `true`, also if `insert` fails.
+pub fn insert_and_remove<V: Drop, B: BitsOwned>(slots: &mut Slots<V, B>, value: V) -> bool
+    ensures { result ≡ true }
+{
+    let before = slots.len();
+    match slots.insert(value) {
+        Ok(key) => match slots.remove(key) {
+            Some(_) => slots.len() == before,
+            None => false,
+        },
+        Err(_) => slots.len() == before,
+    }
+}
+
+/// Returns how many slots hold no value. The difference is never negative.
+pub fn slots_without_value<V: Drop, B: BitsOwned>(slots: &Slots<V, B>) -> u32
+    ensures { result + live_count B.type_capacity slots.now.row.slots.now
+        ≡ length slots.now.row.slots.now }
+{
+    slots.capacity() - slots.len()
+}
+
+/// Values under keys, and how often each slot was used. There are at most 64 slots.
+#[derive(Drop)]
+pub struct Counted<'a, B: BitsOwned> {
+    slots: Slots<'a, u64, B>,
+    uses: [u32; 64],
+    pub ghost covers: { length slots.row.slots.now ≤ 64 },
+}
+
+impl<'a, B: BitsOwned> Counted<'a, B> {
+    /// Inserts a value and returns its key, or `None` if no slot is free.
+    pub fn insert(&mut self, value: u64) -> Option<Key> {
+        let Ok(key) = self.slots.insert(value) else {
+            return None;
+        };
+        let slot = key.slot() as usize;
+        self.uses[slot] = self.uses[slot].saturating_add(1);
+        Some(key)
+    }
+
+    /// Takes out the value of a key. Returns the value and how often its slot was used, or `None`
+    /// if the key finds no value.
+    pub fn remove(&mut self, key: Key) -> Option<(u64, u32)> {
+        let value = self.slots.remove(key)?;
+        Some((value, self.uses[key.slot() as usize]))
+    }
+
+    /// Replaces the value of a key, and returns how often its slot was used, or `None` if the key
+    /// finds no value.
+    pub fn replace(&mut self, key: Key, value: u64) -> Option<u32> {
+        match self.slots.replace(key, value) {
+            Ok(_) => Some(self.uses[key.slot() as usize]),
+            Err(_) => None,
+        }
+    }
+
+    /// Adds one to the value of a key, unless the value is `u64::MAX`. Returns how often the key's
+    /// slot was used, or `None` if the key finds no value.
+    pub fn step(&mut self, key: Key) -> Option<u32> {
+        if self
+            .slots
+            .update(key, |value| *value = value.saturating_add(1))
+        {
+            Some(self.uses[key.slot() as usize])
+        } else {
+            None
+        }
+    }
+
+    /// Returns the key of the value in a slot, and how often the slot was used, or `None` if the
+    /// slot holds no value.
+    pub fn at(&self, slot: u32) -> Option<(Key, u32)> {
+        let key = self.slots.key_at(slot)?;
+        Some((key, self.uses[slot as usize]))
+    }
 }
