@@ -11,7 +11,7 @@ use Rattle.bittle.specs.Words.{word_of}
 use Rattle.bittle_bits.proofs.PlainSets.{plain_set}
 use Rattle.bittle_bits.proofs.Words.{digit_at, word_ends}
 use Rattle.bittle.proofs.CallerSets.{contains_within}
-use Rattle.bittle_ext.specs.Rotations.{has_rotated, rotated_down, rotated_up, has_shifted_down, shifted_down, has_shifted_up, shifted_up, IsDistance, IsNextWord, IsWindow, IsWordFrom}
+use Rattle.bittle_ext.specs.Rotations.{has_rotated, rotated_down, rotated_up, has_shifted_down, shifted_down, has_shifted_up, shifted_up, IsDistance, IsWordAfter, IsWindow, IsWordFrom}
 
 -- two indexes that wrap to the same one are both members, or neither is
 pub contains_as : (s : PlainSet) (i j : ℕ) → i % s.capacity ≡ j % s.capacity →
@@ -34,12 +34,12 @@ word_within w words k capacity word whole fewer =
 
 -- if word `at` is not the last one, word at + 1 comes next
 pub next_inside : (w words at capacity : ℕ) → 0 < w → words * w ≡ capacity → at + 1 < words →
-    IsNextWord w capacity at (at + 1)
+    IsWordAfter w capacity at (at + 1)
 next_inside w words at capacity word whole more =
     inr (word_within w words (at + 1) capacity word whole more, refl)
 
 -- both begin below the capacity, and the first one ends there
-module _ (w at next capacity : ℕ) (word : 0 < w) (is : IsNextWord w capacity at next) where
+module _ (w at next capacity : ℕ) (word : 0 < w) (is : IsWordAfter w capacity at next) where
   pub this_ends : (at + 1) * w ≤ capacity
   this_ends = elim is [
     | inl last ↦ omega (arith, last.0)
@@ -61,7 +61,7 @@ module _ (m : Bool) (w at from d e r : ℕ) (s : PlainSet) (word : 0 < w)
   abbrev t : PlainSet
   t = read_in m w s
 
-  pub window_from : (next : ℕ) → IsNextWord w s.capacity at next →
+  pub window_from : (next : ℕ) → IsWordAfter w s.capacity at next →
       bit_set w d ≡ word_of w s at → bit_set w e ≡ word_of w s next →
       IsWindow w from (read_in m w (bit_set w d)) (read_in m w (bit_set w e))
       (read_in m w (bit_set w r)) →

@@ -39,8 +39,8 @@ pub record IsWindow (w from : ℕ) (s t u : PlainSet) : Type 0 where
 
 -- word `next` comes after word `at` of a set, where a word has w bits; after the last word comes
 -- the first
-abbrev pub IsNextWord : ℕ → ℕ → ℕ → ℕ → Type 0
-IsNextWord w capacity at next =
+abbrev pub IsWordAfter : ℕ → ℕ → ℕ → ℕ → Type 0
+IsWordAfter w capacity at next =
     (((at + 1) * w ≡ capacity) × (next ≡ 0)) ⊎ (((at + 1) * w < capacity) × (next ≡ at + 1))
 
 -- a distance `by` below the capacity is `skipped` whole words and `rest` bits; the capacity is

@@ -10,7 +10,7 @@ ghost use Rattle.bittle.specs.Values.{set_in, ShapeFits};
 use crate::bits_span_ext::BitsSpanExt;
 use crate::capacities::capacity_of;
 use crate::runs;
-use crate::select::{place_of_rank, word_of_rank};
+use crate::select::{index_of_rank, word_of_rank};
 use bittle::Bits;
 use bittle_bits::extension::{Ones, Word, Zeros, first_from, last_of};
 
@@ -187,7 +187,7 @@ pub trait BitsExt: Bits + Sized {
     {
         let width = <Self::LeafWord as Word>::width();
         match word_of_rank::<Self, Self::Order>(self, rank) {
-            Some((k, rest)) => Some(k * width + place_of_rank::<Self, Self::Order>(self, k, rest)),
+            Some((k, rest)) => Some(k * width + index_of_rank::<Self, Self::Order>(self, k, rest)),
             None => None,
         }
     }

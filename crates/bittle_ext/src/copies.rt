@@ -158,7 +158,7 @@ fn put_word<A: BitsMut, E: Endian>(set: &mut A, first: u32, count: u32, word: A:
 
 /// Returns, as a number, as many bits of `value` from bit `first` on as a word has.
 #[inline]
-fn part_of<W: Word>(value: u64, first: u32) -> u128
+fn value_from<W: Word>(value: u64, first: u32) -> u128
     requires within { first < 64 }
     ensures below { result < 2 ^ W.width }
     ensures bits { (count : ℕ) → count ≤ W.width → first + count ≤ 64
@@ -182,7 +182,7 @@ pub fn put_value<A: BitsMut, E: Endian>(set: &mut A, first: u32, count: u32, val
     while done < count {
         let at = first + done;
         let more = (width - at % width).min(count - done);
-        let word = word_of::<A::LeafWord, E>(part_of::<A::LeafWord>(value, done));
+        let word = word_of::<A::LeafWord, E>(value_from::<A::LeafWord>(value, done));
         put_word::<A, E>(set, at, more, word);
         done += more;
     }

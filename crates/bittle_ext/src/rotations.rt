@@ -3,7 +3,7 @@
 ghost use Rattle.std.specs.Prelude.{◌≡◌, ◌+◌, ◌-◌, ◌*◌, ◌^◌, ◌<◌, IsTrue};
 ghost use Rattle.bittle.specs.BitPatterns.{bit_set};
 ghost use Rattle.bittle_ext.specs.Rotations.{rotated_down, rotated_up};
-ghost use Rattle.bittle_ext.specs.Rotations.{IsDistance, IsNextWord, IsWindow, IsWordFrom};
+ghost use Rattle.bittle_ext.specs.Rotations.{IsDistance, IsWordAfter, IsWindow, IsWordFrom};
 ghost use Rattle.bittle.specs.Orders.{read_in};
 ghost use Rattle.bittle.specs.Values.{set_in, ShapeFits};
 
@@ -106,7 +106,7 @@ pub fn distance<B: Bits>(set: &B, by: u32) -> (usize, usize, u32)
 #[inline]
 pub fn word_from<B: Bits, E: Endian>(set: &B, at: usize, next: usize, from: u32) -> B::LeafWord
     requires fits { ShapeFits B.Shape set.now }
-    requires next { IsNextWord B.width (B.big set.now).capacity at next }
+    requires next { IsWordAfter B.width (B.big set.now).capacity at next }
     requires within { from < B.width }
     ensures { IsWordFrom B.width (set_in B.Shape E.Endian set.now) (at * B.width + from)
         (read_in E.mirrored B.width (bit_set B.width (B.LeafWord.pattern result))) }

@@ -57,7 +57,7 @@ fn shifted<W: Word>(word: W, by: u32) -> W
 /// The word is shifted down past each half that does not have the bit. So every half begins at
 /// index 0, and its mask is a constant.
 #[inline]
-pub fn place_of_rank<B: Bits, E: Endian>(bits: &B, k: u32, rest: u32) -> u32
+pub fn index_of_rank<B: Bits, E: Endian>(bits: &B, k: u32, rest: u32) -> u32
     requires fits { ShapeFits B.Shape bits.now }
     requires word { k * B.width < (B.big bits.now).capacity }
     requires has_it { let ours = set_in B.Shape E.Endian bits.now in

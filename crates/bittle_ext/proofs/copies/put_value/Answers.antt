@@ -28,7 +28,7 @@ loop-done-preserved g c =
     let zero_more : 0 + done ≡ done = omega arith in
     let small : more ≤ w =
     omega (arith, c.min-more.ensures, c.width_of_words-width.ensures.width) in
-    let bits = (rw g.met.A.ReadWords.leaf_width at c.part_of.ensures.bits) more small
+    let bits = (rw g.met.A.ReadWords.leaf_width at c.value_from.ensures.bits) more small
     (omega (arith, c.min-more.ensures, c.loop-done-test.true, c.requires.number)) in
     record {
       most = omega (arith, c.min-more.ensures, c.loop-done-test.true);
@@ -36,6 +36,6 @@ loop-done-preserved g c =
           ∙ ap (λ u. with_copied u (first + done) more word 0) v.copied
           ∙ copied_after s t first done more 0 word (λ i h.
           ap (λ (u : PlainSet). u.has i) (rw g.met.A.ReadWords.leaf_width at c.word_of-word.ensures)
-          ∙ like_number t (0 + done) more w c.part_of.result small (rw zero_more bits) i h);
+          ∙ like_number t (0 + done) more w c.value_from.result small (rw zero_more bits) i h);
       stays = v.stays ∙ c.put_word.ensures.stays;
     }

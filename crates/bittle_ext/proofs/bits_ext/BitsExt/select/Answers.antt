@@ -15,7 +15,7 @@ overflow_add-result g c =
       arith,
       at,
       word_ends w c.in-Some.k s.capacity (b.whole_words c.args.self.now) c.in-Some.ensures.0,
-      c.place_of_rank.ensures.within,
+      c.index_of_rank.ensures.within,
       c.requires.1,
     )
 
@@ -28,7 +28,7 @@ returns-in-Some-clause-below g c =
       ap (λ v. c.in-Some.k * v) wide,
       word_ends g.Self.Shape.width c.in-Some.k _ (b.whole_words c.args.self.now)
           c.in-Some.ensures.0,
-      c.place_of_rank.ensures.within,
+      c.index_of_rank.ensures.within,
     )
 
 pub returns-in-Some-clause-value : goal.returns-in-Some-clause-value
@@ -37,8 +37,8 @@ returns-in-Some-clause-value g c =
     let w = g.Self.Shape.width in
     let s = set_in g.Self.Shape g.Self.Order.Endian c.args.self.now in
     let wide : c.width-width.result ≡ w = c.width-width.ensures ∙ b.leaf_width in
-    let place = c.place_of_rank.ensures in
-    rw wide (selected s (c.in-Some.k * w + c.place_of_rank.result) c.args.rank
+    let place = c.index_of_rank.ensures in
+    rw wide (selected s (c.in-Some.k * w + c.index_of_rank.result) c.args.rank
     (omega (
       arith,
       word_ends w c.in-Some.k s.capacity (b.whole_words c.args.self.now) c.in-Some.ensures.0,

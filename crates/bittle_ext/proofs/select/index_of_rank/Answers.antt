@@ -6,7 +6,7 @@ use Rattle.bittle.specs.Values.{set_in}
 use Rattle.bittle_bits.proofs.MembersBelow.{below_between}
 use Rattle.bittle_ext.proofs.RankFacts.{counted_is_member}
 use Rattle.bittle_ext.proofs.RankedBits.{bits_fewer, bits_of_whole, bits_shifted, low_counted}
-use Rattle.bittle_ext.proofs.select.place_of_rank.Goals as goal
+use Rattle.bittle_ext.proofs.select.index_of_rank.Goals as goal
 
 pub loop-span-init : goal.loop-span-init
 loop-span-init g c =

@@ -2,7 +2,7 @@ use Rattle.std.proofs.Common.{◌≡◌, ◌+◌, ◌*◌, ◌<◌, ◌≤◌}
 use Rattle.bittle.specs.Orders.{read_in}
 use Rattle.bittle.specs.PlainSet.{members_below}
 use Rattle.bittle_ext.specs.Numbers.{HasBitsOf}
-use Rattle.bittle_ext.proofs.select.place_of_rank.Given as goal
+use Rattle.bittle_ext.proofs.select.index_of_rank.Given as goal
 
 abbrev pub invariant-loop-span : goal.invariant-loop-span
 invariant-loop-span g l =

@@ -3,7 +3,7 @@ use Rattle.std.specs.Int.{bit_at}
 use Rattle.std.proofs.lemmas.Nat.{and_mask, mod_below, pow_pos}
 use Rattle.bittle_bits.proofs.BitSets.{bit_has-at}
 use Rattle.bittle_ext.proofs.Windows.{bit_at_masked, bit_at_shifted}
-use Rattle.bittle_ext.proofs.copies.part_of.Goals as goal
+use Rattle.bittle_ext.proofs.copies.value_from.Goals as goal
 
 pub returns-clause-below : goal.returns-clause-below
 returns-clause-below g c =
