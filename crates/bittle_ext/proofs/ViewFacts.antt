@@ -227,6 +227,22 @@ module _ (ones m : Bool) (w from to low high q r : ℕ) (t : PlainSet) (word : 0
   outside i out = ap (λ (u : PlainSet). u.has i) (read_back_is m w (kind_within ones t from to))
       ∙ ap (λ b. b && (ones_or_zeros ones t).has (place m w i)) (is_in_span-outside from to (place m w i) out)
 
+  -- the words below word p have no member of a range that starts in no word below p
+  ahead : (p : ℕ) → q * w ≤ from → p ≤ q → (i : ℕ) → i < p * w →
+      (read_back m w (kind_within ones t from to)).has i ≡ false
+  ahead p start below i hi =
+      let up : p * w ≤ q * w = mul-le-mul_right w below in
+      let at : place m w i < q * w = place_below m w q i word (omega (arith, hi, up)) in
+      outside i (inl (omega (arith, at, start)))
+
+  -- the words from word p on have no member of a range that ends in no word from p on
+  past : (p : ℕ) → to ≤ q * w → q ≤ p → (i : ℕ) → p * w ≤ i →
+      (read_back m w (kind_within ones t from to)).has i ≡ false
+  past p end since i lo =
+      let up : q * w ≤ p * w = mul-le-mul_right w since in
+      let at : q * w ≤ place m w i = place_past m w q i word (omega (arith, lo, up)) in
+      outside i (inr (omega (arith, at, end)))
+
   -- the words before that of the start of a range have no member of it
   pub before_range : q * w ≤ from → r ≡ min (max q low) high →
       PassesOver true w (read_back m w (kind_within ones t from to)) low high r
@@ -234,10 +250,7 @@ module _ (ones m : Bool) (w from to low high q r : ℕ) (t : PlainSet) (word : 0
     omega (arith, is, order),
     omega (arith, is),
     λ i lo hi. elim (cases_lt low q) [
-      | inl l ↦
-          let up : r * w ≤ q * w = mul-le-mul_right w (omega (arith, is, l)) in
-          let at : place m w i < q * w = place_below m w q i word (omega (arith, hi, up)) in
-          outside i (inl (omega (arith, at, start)))
+      | inl l ↦ ahead r start (omega (arith, is, l)) i hi
       | inr g ↦
           let same : r ≡ low = omega (arith, is, g, order) in
           absurd (omega (arith, lo, rw same at hi))
@@ -251,12 +264,27 @@ module _ (ones m : Bool) (w from to low high q r : ℕ) (t : PlainSet) (word : 0
     omega (arith, is),
     omega (arith, is, order),
     λ i lo hi. elim (cases_lt q high) [
-      | inl l ↦
-          let up : q * w ≤ r * w = mul-le-mul_right w (omega (arith, is, l)) in
-          let at : q * w ≤ place m w i = place_past m w q i word (omega (arith, lo, up)) in
-          outside i (inr (omega (arith, at, end)))
+      | inl l ↦ past r end (omega (arith, is, l)) i lo
       | inr g ↦
           let same : r ≡ high = omega (arith, is, g, order) in
           absurd (omega (arith, rw same at lo, hi))
     ],
+  )
+
+  -- words that begin past the end of a range have no member of it
+  pub wholly_after : to ≤ q * w → q ≤ low → r ≡ high →
+      PassesOver true w (read_back m w (kind_within ones t from to)) low high r
+  wholly_after end since is = (
+    omega (arith, is, order),
+    omega (arith, is),
+    λ i lo _. past low end since i lo,
+  )
+
+  -- words that end before the start of a range have no member of it
+  pub wholly_before : q * w ≤ from → high ≤ q → r ≡ low →
+      PassesOver false w (read_back m w (kind_within ones t from to)) low high r
+  wholly_before start below is = (
+    omega (arith, is),
+    omega (arith, is, order),
+    λ i _ hi. ahead high start below i hi,
   )

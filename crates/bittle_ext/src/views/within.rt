@@ -109,13 +109,25 @@ impl<'a, B: ReadWords, E: Endian, K: Kind> ReadWords for KindWithin<'a, B, E, K>
             return if N::FRONT { low } else { high };
         }
         let width = word_width::<B>();
+        let first = (self.from / width) as usize;
+        let end = self.to.div_ceil(width) as usize;
         if N::FRONT {
-            let first = (self.from / width) as usize;
-            let at = if low < first { first.min(high) } else { low };
+            let at = if low < first {
+                first.min(high)
+            } else if low < end {
+                low
+            } else {
+                high
+            };
             self.set.pass_over::<K, N>(at, high)
         } else {
-            let end = self.to.div_ceil(width) as usize;
-            let at = if end < high { end.max(low) } else { high };
+            let at = if end < high {
+                end.max(low)
+            } else if first < high {
+                high
+            } else {
+                low
+            };
             self.set.pass_over::<K, N>(low, at)
         }
     }
