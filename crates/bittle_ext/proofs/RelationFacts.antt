@@ -1,12 +1,21 @@
 -- The state of the search that compares two sets.
-use Rattle.std.proofs.Common.{◌≡◌, ℕ, ◌<◌, ◌≤◌, Bool, true, false, ◌&&◌, Some, inl, inr, refl, sym, ap, ◌∙◌, arith}
+use Rattle.std.proofs.Common.{◌≡◌, ℕ, ◌<◌, ◌≤◌, Bool, true, false, ◌&&◌, Option, Some, None, inl, inr, refl, sym, ap, ◌∙◌, arith}
 use Rattle.std.proofs.lemmas.Bool.{cases_lt, and_right}
+use Rattle.std.specs.Prelude.{MatchOption}
 use Rattle.bittle.specs.Decided.{NoneDecidedBelow, IsFirstDecided}
 use Rattle.bittle.specs.PlainSet.{PlainSet}
 use Rattle.bittle.specs.Walk.{ones_or_zeros}
 use Rattle.bittle.specs.Searches.{NoneIn, IsFirstIn}
 use Rattle.bittle.proofs.CallerSets.{complement_within}
 use Rattle.bittle_ext.specs.SetRelations.{first_and}
+use Rattle.bittle_ext.specs.Views.{decided_of_first}
+
+-- the first member of a view of two sets is the first number that the operation decides
+pub first_viewed : (decide : Bool → Bool → Bool) (s t : PlainSet) (end : ℕ) (r : Option ℕ) →
+    IsFirstIn (decided_of_first decide s t) 0 end r →
+    MatchOption r (NoneDecidedBelow decide s t end) (IsFirstDecided decide s t)
+first_viewed decide s t end None none = λ i l. none i (omega arith) l
+first_viewed decide s t end (Some d) first = (λ i l. first.3 i (omega arith) l, first.2)
 
 -- a number of the first is decided by whether it is of a kind in the second
 by_kind : (v a : Bool) (t : PlainSet) (i : ℕ) → i < t.capacity →
