@@ -1,17 +1,17 @@
 -- Ranges of a set as numbers, gathered word by word.
-use Rattle.std.proofs.Common.{◌≡◌, ℕ, zero, suc, ◌+◌, ◌-◌, ◌*◌, ◌/◌, ◌%◌, ◌^◌, ◌<◌, ◌≤◌, ◌⊎◌, Bool, true, false, cond, ◌&&◌, ◌==◌, inl, inr, refl, sym, ap, ◌∙◌, arith, bit_and, bit_or}
+use Rattle.std.proofs.Common.{◌≡◌, ℕ, zero, suc, ◌+◌, ◌-◌, ◌*◌, ◌/◌, ◌%◌, ◌^◌, ◌<◌, ◌≤◌, ◌⊎◌, Bool, true, false, cond, ◌&&◌, ◌==◌, nat_lt, inl, inr, refl, sym, ap, ◌∙◌, arith, bit_and, bit_or}
 use Rattle.std.specs.Int.{bit_at}
 use Rattle.std.proofs.Math.Path.{fun_ext}
 use Rattle.std.proofs.Math.Nat.{mod-eq_of_lt}
 use Rattle.std.proofs.Math.Pow.{pow_mono, shr_lt}
-use Rattle.std.proofs.lemmas.Bool.{cases_eq, cases_lt, eq-eqb, lt-ltb, ne_eqb}
+use Rattle.std.proofs.lemmas.Bool.{cases_eq, cases_lt, eq-eqb, le-ltb, lt-ltb, ne_eqb}
 use Rattle.std.proofs.lemmas.Nat.{and_mask, mod_below, mul-add-lt, or_shifted, pow-add, pow_pos, shr_split}
 use Rattle.std.proofs.lemmas.Nat.Bits.{bit_at-lt, bit_at_above, bit_at_cat_high, bit_at_cat_low, ones_shr}
 use Rattle.bittle.specs.BitPatterns.{bit_has, bit_set}
 use Rattle.bittle.specs.Orders.{mirror, place, read_in}
 use Rattle.bittle.specs.PlainSet.{PlainSet, is_in_span}
 use Rattle.bittle.specs.SetOperations.{combination_of, just_one}
-use Rattle.bittle.specs.Words.{word_of}
+use Rattle.bittle.specs.Words.{word_has, word_of}
 use Rattle.bittle_bits.specs.LawProofs.{bit_has-past}
 use Rattle.bittle_bits.proofs.BitSets.{all_digits, bit_has-at, bit_has-zero, full_word}
 use Rattle.bittle_bits.proofs.PlaceLemmas.{mirror_in_word, place-place, place_past}
@@ -23,6 +23,14 @@ use Rattle.bittle_bits.proofs.Words.{digit_at}
 use Rattle.bittle_ext.specs.Numbers.{number_in, HasBitsOf, has_copied}
 use Rattle.bittle_ext.specs.Rotations.{IsWindow}
 use Rattle.bittle_ext.proofs.Windows.{bit_at_masked, bit_at_shifted}
+
+-- a number that has the bits of word k of a set is that word
+pub number_word : (w k d : ℕ) (s : PlainSet) → HasBitsOf s (k * w) w d → bit_set w d ≡ word_of w s k
+unfolding bit_has word_has
+number_word w k d s bits = ap (plain_set w) (fun_ext λ i. elim (cases_lt i w) [
+  | inl l ↦ ap (λ b. nat_lt i w && b) (bits i l)
+  | inr g ↦ rw (le-ltb i w g) refl
+])
 
 -- a number below 2 ^ n whose n bits are those of a range of a set is the number of that range
 pub number_is : (s : PlainSet) (first n d : ℕ) → d < 2 ^ n → HasBitsOf s first n d →

@@ -12,11 +12,11 @@ use crate::numbers::{
 };
 use crate::rotations::{all_bits, window};
 use bittle::{Bits, BitsMut, Endian};
-use bittle_bits::extension::{Conjunction, Operation, Word, are_alike};
+use bittle_bits::extension::{Conjunction, Operation, ReadWords, Word, are_alike};
 
 /// Returns how many bits each word of a set has: 128 at most.
 #[inline]
-pub fn width_of_words<B: Bits>() -> u32
+pub fn width_of_words<B: ReadWords>() -> u32
     ensures width { result ≡ B.width }
     ensures within { B.width ≤ 128 }
 {
@@ -26,7 +26,7 @@ pub fn width_of_words<B: Bits>() -> u32
 /// Returns a word whose first `count` bits are the bits of the set at `count` indexes from `first`
 /// on, which lie in one word or in two. The other bits of the result may be set or unset.
 #[inline]
-fn word_near<B: Bits, E: Endian>(set: &B, first: u32, count: u32) -> B::LeafWord
+fn word_near<B: ReadWords, E: Endian>(set: &B, first: u32, count: u32) -> B::LeafWord
     requires fits { ShapeFits B.Shape set.now }
     requires some { 0 < count }
     requires within { count ≤ B.width }
@@ -48,7 +48,7 @@ fn word_near<B: Bits, E: Endian>(set: &B, first: u32, count: u32) -> B::LeafWord
 /// Returns, as a number, the bits at `count` indexes from `first` on. They lie in one word or in
 /// two.
 #[inline]
-fn number_near<B: Bits, E: Endian>(set: &B, first: u32, count: u32) -> u128
+fn number_near<B: ReadWords, E: Endian>(set: &B, first: u32, count: u32) -> u128
     requires fits { ShapeFits B.Shape set.now }
     requires some { 0 < count }
     requires within { count ≤ B.width }
@@ -63,7 +63,7 @@ fn number_near<B: Bits, E: Endian>(set: &B, first: u32, count: u32) -> u128
 /// Returns, as a number, the bits at `count` indexes from `first` on. Bits at or past the capacity
 /// count as unset.
 #[inline]
-pub fn number_from<B: Bits, E: Endian>(set: &B, first: u32, count: u32) -> u128
+pub fn number_from<B: ReadWords, E: Endian>(set: &B, first: u32, count: u32) -> u128
     requires fits { ShapeFits B.Shape set.now }
     requires within { count ≤ 128 }
     ensures below { result < 2 ^ count }

@@ -6,9 +6,10 @@ ghost use Rattle.bittle.specs.Words.{word_of};
 ghost use Rattle.bittle.specs.Orders.{read_in};
 ghost use Rattle.bittle.specs.Values.{set_in, ShapeFits};
 
-use crate::range_iterators::iter_within;
+use crate::copies::number_from;
+use crate::numbers::{width_of, word_of};
 use bittle::Endian;
-use bittle_bits::extension::{Ones, ReadWords, Word, are_alike, set_bit};
+use bittle_bits::extension::{ReadWords, Word, are_alike, word_width};
 
 /// A marker that says whether every word that is read from a set is known to exist. If so, a loop
 /// over the words makes no test for the end of the set.
@@ -47,28 +48,24 @@ pub fn word_or_empty<S: ReadWords, R: Reach>(set: &S, k: usize) -> S::LeafWord
     if R::ALL {
         return set.nth_leaf_word(k);
     }
-    if k < (set.capacity() / <S::LeafWord as Word>::width()) as usize {
+    if k < (set.capacity() / word_width::<S>()) as usize {
         set.nth_leaf_word(k)
     } else {
         <S::LeafWord as Word>::zero()
     }
 }
 
-/// Gathers word `k` of a set, one set bit after another. The set is read in the order `F`. The
-/// result is a word of the type `W` in the order `E`, and `k` counts words of the type `W`.
-fn gathered_word<W: Word, B: ReadWords, E: Endian, F: Endian>(set: &B, k: u32) -> W
+/// Returns word `k` of a set that is read in the order `F`. The result is a word of the type `W` in
+/// the order `E`, and `k` counts words of the type `W`. The words of the set are read whole, and
+/// not bit by bit.
+fn unlike_word<W: Word, B: ReadWords, E: Endian, F: Endian>(set: &B, k: u32) -> W
     requires fits { ShapeFits B.Shape set.now }
     requires within { k * W.width < 4294967296 }
     ensures { read_in E.mirrored W.width (bit_set W.width (W.pattern result))
         ≡ word_of W.width (set_in B.Shape F.Endian set.now) k }
 {
-    let start = k * W::width();
-    let end = start.saturating_add(W::width()).min(set.capacity());
-    let mut word = W::zero();
-    for index in iter_within::<B, F, Ones>(set, start.min(end), end) {
-        set_bit::<W, E>(&mut word, index - start);
-    }
-    word
+    let width = width_of::<W>();
+    word_of::<W, E>(number_from::<B, F>(set, k * width, width))
 }
 
 /// Returns word `k` of a set that is read in the order `F`. The result is a word of the type of
@@ -88,6 +85,6 @@ pub fn other_word<A: ReadWords, B: ReadWords, E: Endian, F: Endian, R: Reach>(
     if are_alike::<A, B, E, F>() {
         <A::LeafWord as Word>::from_bits(word_or_empty::<B, R>(set, k).to_bits())
     } else {
-        gathered_word::<A::LeafWord, B, E, F>(set, k as u32)
+        unlike_word::<A::LeafWord, B, E, F>(set, k as u32)
     }
 }

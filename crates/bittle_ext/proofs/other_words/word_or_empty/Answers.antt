@@ -7,5 +7,5 @@ returns-else-k-capacity g c =
     let b = g.met.S.ReadWords in
     let set = c.args.set.now in
     word_past _ _ _ _ _ (g.S.Shape.big set) b.width_positive (b.whole_words set) (b.none_past set)
-    (c.capacity.ensures.value c.requires.fits) (c.width.ensures ∙ b.leaf_width)
+    (c.capacity.ensures.value c.requires.fits) c.word_width.ensures
     c.if-k-capacity.false c.zero.ensures
