@@ -1,19 +1,21 @@
 //! Indexes that do not wrap: calls on one bit that refuse an index at or past the capacity.
 
 ghost use Rattle.std.specs.Option.{is_some};
-ghost use Rattle.std.specs.Prelude.{◌≡◌, ◌<◌, ◌↔◌, cond, not, IfSome, IsTrue};
-ghost use Rattle.bittle.specs.PlainSet.{with_index, without_index};
+ghost use Rattle.std.specs.Prelude.{◌≡◌, ◌+◌, ◌<◌, ◌↔◌, cond, min, not, IfSome, IsTrue, MatchOption};
+ghost use Rattle.bittle.specs.PlainSet.{size, with_index, without_index};
 ghost use Rattle.bittle.specs.Values.{set_in, ShapeFits};
 
 use crate::bits_mut_ext::BitsMutExt;
-use crate::capacities::capacity_of;
 use bittle::{Bits, BitsMut};
 
 /// Questions about one bit, by an index that does not wrap.
 ///
 /// If an index is at or past the capacity, these calls return `false` or `None`, while `test_bit`
-/// tests the bit that the index wraps to. The shape has to fit (`bits_capacity() < u32::MAX`). The
-/// bit order (big- or little-endian) is that of the type; for another order, use the view that
+/// tests the bit that the index wraps to. Each call costs O(1). The type has to fit
+/// (`bits_capacity() < u32::MAX`). For a slice, only its element type has to fit. If it has more
+/// bits, its indexes end below `u32::MAX`.
+///
+/// The bit order (big- or little-endian) is that of the type; for another order, use the view that
 /// [`in_order`](crate::BitsViewExt::in_order) returns.
 pub trait BitsIndexExt: Bits + Sized {
     /// Returns `true` if the bit at `index` is set. It returns `false` if the bit is unset, or if
@@ -26,11 +28,14 @@ pub trait BitsIndexExt: Bits + Sized {
     #[inline]
     #[tactic(auto, using(bittle::proofs::CallerSets::contains_within))]
     final fn contains_index(&self, index: u32) -> bool
-        requires { ShapeFits Self.Shape self.now }
-        ensures value { result ≡ (set_in Self.Shape Self.Order.Endian self.now).has index }
-        ensures below { IsTrue result → index < (Self.big self.now).capacity }
+        requires { IsTrue Self.indexable }
+        ensures value { ShapeFits Self.Shape self.now
+            → result ≡ (set_in Self.Shape Self.Order.Endian self.now).has index }
+        ensures until_last { index < 4294967295
+            → result ≡ (set_in Self.Shape Self.Order.Endian self.now).has index }
+        ensures below { IsTrue result → index < min (Self.big self.now).capacity 4294967295 }
     {
-        index < capacity_of::<Self, Self::Order>(self) && self.test_bit_in::<Self::Order>(index)
+        index < self.bits_capacity() && self.test_bit_in::<Self::Order>(index)
     }
 
     /// Returns whether the bit at `index` is set, or `None` if `index` is at or past the capacity,
@@ -43,8 +48,9 @@ pub trait BitsIndexExt: Bits + Sized {
     #[inline]
     #[tactic(auto, using(bittle::proofs::CallerSets::contains_within))]
     final fn get_bit(&self, index: u32) -> Option<bool>
-        requires { ShapeFits Self.Shape self.now }
-        ensures within { IsTrue (is_some result) ↔ index < (Self.big self.now).capacity }
+        requires { IsTrue Self.indexable }
+        ensures within { IsTrue (is_some result)
+            ↔ index < min (Self.big self.now).capacity 4294967295 }
         ensures value { IfSome result
             (λ bit. bit ≡ (set_in Self.Shape Self.Order.Endian self.now).has index) }
     {
@@ -59,8 +65,10 @@ pub trait BitsIndexExt: Bits + Sized {
 /// Changes of one bit, by an index that does not wrap.
 ///
 /// If an index is at or past the capacity, nothing changes, and the call returns `false` or `None`.
-/// The shape has to fit (`bits_capacity() < u32::MAX`). The bit order (big- or little-endian) is
-/// that of the type; for another order, use the view that
+/// Each call costs O(1). The type has to fit (`bits_capacity() < u32::MAX`). For a slice, only its
+/// element type has to fit. If it has more bits, its indexes end below `u32::MAX`.
+///
+/// The bit order (big- or little-endian) is that of the type; for another order, use the view that
 /// [`in_order_mut`](crate::BitsMutViewExt::in_order_mut) returns.
 pub trait BitsIndexMutExt: BitsMut + Sized {
     /// Sets the bit at `index` and returns `true`. If `index` is at or past the capacity, as every
@@ -73,8 +81,8 @@ pub trait BitsIndexMutExt: BitsMut + Sized {
     /// ```
     #[inline]
     final fn try_set_bit(&mut self, index: u32) -> bool
-        requires { ShapeFits Self.Shape self.old }
-        ensures within { IsTrue result ↔ index < (Self.big self.old).capacity }
+        requires { IsTrue Self.indexable }
+        ensures within { IsTrue result ↔ index < min (Self.big self.old).capacity 4294967295 }
         ensures set { let before = set_in Self.Shape Self.Order.Endian self.old in
             set_in Self.Shape Self.Order.Endian self.new
             ≡ cond result (with_index before index) before }
@@ -97,8 +105,8 @@ pub trait BitsIndexMutExt: BitsMut + Sized {
     /// ```
     #[inline]
     final fn try_clear_bit(&mut self, index: u32) -> bool
-        requires { ShapeFits Self.Shape self.old }
-        ensures within { IsTrue result ↔ index < (Self.big self.old).capacity }
+        requires { IsTrue Self.indexable }
+        ensures within { IsTrue result ↔ index < min (Self.big self.old).capacity 4294967295 }
         ensures set { let before = set_in Self.Shape Self.Order.Endian self.old in
             set_in Self.Shape Self.Order.Endian self.new
             ≡ cond result (without_index before index) before }
@@ -123,13 +131,17 @@ pub trait BitsIndexMutExt: BitsMut + Sized {
     #[inline]
     #[tactic(auto, using(bittle::proofs::CallerSets::contains_within))]
     final fn try_insert(&mut self, index: u32) -> Option<bool>
-        requires { ShapeFits Self.Shape self.old }
-        ensures within { IsTrue (is_some result) ↔ index < (Self.big self.old).capacity }
+        requires { IsTrue Self.indexable }
+        ensures within { IsTrue (is_some result)
+            ↔ index < min (Self.big self.old).capacity 4294967295 }
         ensures was_unset { IfSome result (λ unset.
             unset ≡ not ((set_in Self.Shape Self.Order.Endian self.old).has index)) }
         ensures set { let before = set_in Self.Shape Self.Order.Endian self.old in
             set_in Self.Shape Self.Order.Endian self.new
             ≡ cond (is_some result) (with_index before index) before }
+        ensures count { let before = size (set_in Self.Shape Self.Order.Endian self.old) in
+            let after = size (set_in Self.Shape Self.Order.Endian self.new) in
+            MatchOption result (after ≡ before) (λ unset. after ≡ before + cond unset 1 0) }
         ensures stays { Self.loan self.old ≡ Self.loan self.new }
     {
         if index < self.bits_capacity() {
@@ -151,13 +163,17 @@ pub trait BitsIndexMutExt: BitsMut + Sized {
     #[inline]
     #[tactic(auto, using(bittle::proofs::CallerSets::contains_within))]
     final fn try_remove(&mut self, index: u32) -> Option<bool>
-        requires { ShapeFits Self.Shape self.old }
-        ensures within { IsTrue (is_some result) ↔ index < (Self.big self.old).capacity }
+        requires { IsTrue Self.indexable }
+        ensures within { IsTrue (is_some result)
+            ↔ index < min (Self.big self.old).capacity 4294967295 }
         ensures was_set { IfSome result (λ set.
             set ≡ (set_in Self.Shape Self.Order.Endian self.old).has index) }
         ensures set { let before = set_in Self.Shape Self.Order.Endian self.old in
             set_in Self.Shape Self.Order.Endian self.new
             ≡ cond (is_some result) (without_index before index) before }
+        ensures count { let before = size (set_in Self.Shape Self.Order.Endian self.old) in
+            let after = size (set_in Self.Shape Self.Order.Endian self.new) in
+            MatchOption result (before ≡ after) (λ set. before ≡ after + cond set 1 0) }
         ensures stays { Self.loan self.old ≡ Self.loan self.new }
     {
         if index < self.bits_capacity() {
