@@ -1,9 +1,10 @@
 //! A borrowed set that is read in a named order.
 
-ghost use Rattle.std.specs.Prelude.{◌≡◌};
+ghost use Rattle.std.specs.Prelude.{◌≡◌, ⊤};
 
 use bittle::{Bits, Endian, Shape};
 use bittle_bits::extension::{End, Kind, ReadWords, Sealed};
+use std::alloc::AllocError;
 use std::marker::PhantomData;
 
 /// A borrowed set that is read in the order `E`: a call that names no order uses `E`.
@@ -37,6 +38,19 @@ impl<'a, B: Shape, E: Endian> Shape for InOrder<'a, B, E> {
 
     fn seal(_: Sealed) {}
 }
+
+impl<'a, B: Shape, E: Endian> Clone for InOrder<'a, B, E> {
+    ghost is_clone = { λ s r. r ≡ s };
+
+    ghost is_infallible = { λ _. ⊤ };
+
+    #[inline]
+    fn clone(&self) -> Result<InOrder<'a, B, E>, AllocError> {
+        Ok(*self)
+    }
+}
+
+impl<'a, B: Shape, E: Endian> Copy for InOrder<'a, B, E> {}
 
 impl<'a, B: ReadWords, E: Endian> ReadWords for InOrder<'a, B, E> {
     ghost leaf_width = { B.leaf_width };
