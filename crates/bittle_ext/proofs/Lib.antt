@@ -12,7 +12,6 @@ mod CopiedRanges
 mod DigitTexts
 mod EdgeRuns
 mod EdgeWords
-mod GatheredWords
 mod GrownSets
 mod MaximalRuns
 pub mod NumberBits
@@ -30,6 +29,7 @@ mod RetainSteps
 mod ReversedBits
 mod RetainedWords
 mod RotatedSets
+pub mod RunCounts
 mod ShiftedWords
 mod WholeWords
 mod Windows

@@ -379,10 +379,6 @@ reading_begins m w words from n d e s word some whole low first mask =
 
 module _ (w words from n k start : ℕ) (s word : PlainSet)
     (p : IsReading w words from n k start s word) where
-  -- the word lies below the capacity
-  pub word_below : k * w + w ≤ s.capacity
-  word_below = omega (arith, p.read.whole, mul-le-mul_right w p.read.element)
-
   -- after word k, a later word is read
   pub reading_on : (next later : ℕ) (v : PlainSet) → k < next → next < words → v.capacity ≡ w →
       IsOpen (members_within s from s.capacity) n later (next * w) →

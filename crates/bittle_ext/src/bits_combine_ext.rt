@@ -11,14 +11,14 @@ use bittle::{BigEndian, Bits, BitsMut, BitsOwned};
 use bittle_bits::extension::{Conjunction, Difference, SymmetricDifference, Union};
 
 /// Changes of a set by another set, which may be of another type, such as a view. Both sets have to
-/// fit (`bits_capacity() < u32::MAX`).
+/// fit (`bits_capacity() < u32::MAX`). Beside them stand `from_set`, which makes a set, and
+/// `set_all`.
 ///
 /// Each set is read in the bit order of its type; a view made by `in_order` or `in_order_mut` has
 /// the order that it names. The capacity of the changed set stays the same. Bits of the other set
 /// at or past that capacity are ignored. If the other set is shorter, its missing bits count as
-/// unset. If the words of both sets have the same width and order, whole words are combined. Else,
-/// for each word of the changed set, the set bits of the other set are gathered, one by one, into a
-/// word of the same width and order.
+/// unset. If the words of both sets have the same width and order, whole words are combined. Else
+/// the words of the other set are converted, whole, to words of the same width and order.
 ///
 /// `union_assign` and the other three `_assign` calls of [`BitsMut`](bittle::BitsMut) take a set of
 /// the same type, mean the same in both orders, and return nothing. If two slices differ in length,

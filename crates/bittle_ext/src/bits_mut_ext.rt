@@ -24,13 +24,13 @@ use bittle_bits::extension::{
     Difference, Ones, SymmetricDifference, Union, Zeros, first_from, last_of,
 };
 
-/// Everyday changes of any set that can be changed. No change alters the capacity. A shape or type
-/// fits if its capacity, and that of each array type within it, is below `u32::MAX`. The bit order
-/// (big- or little-endian) is that of the type; for another order, use the view that
-/// [`in_order_mut`](crate::BitsMutViewExt::in_order_mut) returns.
+/// Everyday changes of any set that can be changed. No change alters the capacity. A change of one
+/// bit costs O(1). A shape or type fits if its capacity, and that of each array type within it, is
+/// below `u32::MAX`. The bit order (big- or little-endian) is that of the type; for another order,
+/// use the view that [`in_order_mut`](crate::BitsMutViewExt::in_order_mut) returns.
 pub trait BitsMutExt: BitsMut + Sized {
     /// Sets the bit at `index`, and returns `true` if the bit was unset before. Indexes follow the
-    /// bit order of the type, and an index past the capacity wraps. With capacity 0 nothing
+    /// bit order of the type, and an index at or past the capacity wraps. With capacity 0 nothing
     /// changes, and the call returns `true`.
     ///
     /// The type has to fit. For a slice, only its element type has to fit.
@@ -61,7 +61,7 @@ pub trait BitsMutExt: BitsMut + Sized {
     }
 
     /// Clears the bit at `index`, and returns `true` if the bit was set before. Indexes follow the
-    /// bit order of the type, and an index past the capacity wraps. With capacity 0 nothing
+    /// bit order of the type, and an index at or past the capacity wraps. With capacity 0 nothing
     /// changes, and the call returns `false`.
     ///
     /// The type has to fit. For a slice, only its element type has to fit.
@@ -91,7 +91,7 @@ pub trait BitsMutExt: BitsMut + Sized {
     }
 
     /// Sets the bit at `index` if `value` is `true`, else clears it. Indexes follow the bit order
-    /// of the type, and an index past the capacity wraps. With capacity 0 nothing changes.
+    /// of the type, and an index at or past the capacity wraps. With capacity 0 nothing changes.
     ///
     /// The type has to fit. For a slice, only its element type has to fit.
     ///
@@ -114,8 +114,8 @@ pub trait BitsMutExt: BitsMut + Sized {
     }
 
     /// Sets the bit at `index` if `value` is `true`, else clears it. Returns `true` if the bit was
-    /// set before. Indexes follow the bit order of the type, and an index past the capacity wraps.
-    /// With capacity 0 nothing changes, and the call returns `false`.
+    /// set before. Indexes follow the bit order of the type, and an index at or past the capacity
+    /// wraps. With capacity 0 nothing changes, and the call returns `false`.
     ///
     /// The type has to fit. For a slice, only its element type has to fit.
     ///
@@ -136,8 +136,8 @@ pub trait BitsMutExt: BitsMut + Sized {
         before
     }
 
-    /// Flips the bit at `index`. Indexes follow the bit order of the type, and an index past the
-    /// capacity wraps. With capacity 0 nothing changes.
+    /// Flips the bit at `index`. Indexes follow the bit order of the type, and an index at or past
+    /// the capacity wraps. With capacity 0 nothing changes.
     ///
     /// The type has to fit. For a slice, only its element type has to fit.
     ///
@@ -286,6 +286,10 @@ pub trait BitsMutExt: BitsMut + Sized {
         ensures set { MatchOption result (self.new ≡ self.old)
             (λ index. set_in Self.Shape Self.Order.Endian self.new
             ≡ with_index (set_in Self.Shape Self.Order.Endian self.old) index) }
+        ensures more { MatchOption result
+            (size (set_in Self.Shape Self.Order.Endian self.old) ≡ (Self.big self.old).capacity)
+            (λ index. size (set_in Self.Shape Self.Order.Endian self.new)
+            ≡ size (set_in Self.Shape Self.Order.Endian self.old) + 1) }
         ensures stays { Self.loan self.old ≡ Self.loan self.new }
     {
         let free = first_from::<Self, Self::Order, Zeros>(&*self, 0)?;
@@ -313,6 +317,9 @@ pub trait BitsMutExt: BitsMut + Sized {
         ensures set { MatchOption result (self.new ≡ self.old)
             (λ from. set_in Self.Shape Self.Order.Endian self.new
             ≡ with_span (set_in Self.Shape Self.Order.Endian self.old) from (from + length)) }
+        ensures more { MatchOption result (self.new ≡ self.old)
+            (λ from. size (set_in Self.Shape Self.Order.Endian self.new)
+            ≡ size (set_in Self.Shape Self.Order.Endian self.old) + length) }
         ensures stays { Self.loan self.old ≡ Self.loan self.new }
     {
         let from = self.first_zero_run(length)?;
@@ -345,9 +352,10 @@ pub trait BitsMutExt: BitsMut + Sized {
     }
 
     /// Sets the bit at each index of the slice `indexes`. Indexes follow the bit order of the type,
-    /// and an index past the capacity wraps. With capacity 0 nothing changes.
+    /// and an index at or past the capacity wraps. With capacity 0 nothing changes.
     ///
-    /// The type has to fit. For a slice, only its element type has to fit.
+    /// The type has to fit. For a slice, only its element type has to fit. Each index costs
+    /// O(1).
     ///
     /// ```
     /// let mut row = [0u8; 2];
@@ -366,10 +374,11 @@ pub trait BitsMutExt: BitsMut + Sized {
     }
 
     /// Sets the bit at each index of `indexes`, which is an array, a `Vec`, a range or an iterator.
-    /// Indexes follow the bit order of the type, and an index past the capacity wraps. With
+    /// Indexes follow the bit order of the type, and an index at or past the capacity wraps. With
     /// capacity 0 nothing changes.
     ///
     /// The type has to fit. For a slice, only its element type has to fit. The iterator has to end.
+    /// Each index costs O(1).
     ///
     /// ```
     /// let mut row = [0u8; 2];

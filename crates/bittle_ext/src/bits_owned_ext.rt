@@ -105,7 +105,8 @@ pub trait BitsOwnedExt: BitsOwned {
 
     /// Returns a copy of this set in which every bit of the range is set. The call makes one mask
     /// per word of the range. A range that names no end goes up to the capacity. The range must not
-    /// run backwards, and has to end at or below the capacity: no index wraps.
+    /// run backwards, and has to end at or below the capacity: no index wraps. A range `a..=b` that
+    /// was iterated over before is not allowed.
     ///
     /// ```
     /// [0u8; 2].with_span(6..=10);                         // [0xC0, 0x07]
@@ -129,7 +130,8 @@ pub trait BitsOwnedExt: BitsOwned {
 
     /// Returns a copy of this set in which every bit of the range is unset. The call makes one mask
     /// per word of the range. A range that names no end goes up to the capacity. The range must not
-    /// run backwards, and has to end at or below the capacity: no index wraps.
+    /// run backwards, and has to end at or below the capacity: no index wraps. A range `a..=b` that
+    /// was iterated over before is not allowed.
     ///
     /// ```
     /// [0xFFu8; 2].without_span(..11);                     // [0x00, 0xF8]
@@ -153,7 +155,8 @@ pub trait BitsOwnedExt: BitsOwned {
 
     /// Returns a copy of this set in which every bit of the range is flipped. The call makes one
     /// mask per word of the range. A range that names no end goes up to the capacity. The range
-    /// must not run backwards, and has to end at or below the capacity: no index wraps.
+    /// must not run backwards, and has to end at or below the capacity: no index wraps. A range
+    /// `a..=b` that was iterated over before is not allowed.
     ///
     /// ```
     /// 0b0011_1100u8.with_span_toggled(4..);               // 0b1100_1100
@@ -266,8 +269,8 @@ pub trait BitsOwnedExt: BitsOwned {
     }
 
     /// Returns the set in which exactly the bits at the listed indexes are set. Indexes follow the
-    /// bit order of the type, and an index past the capacity wraps. With capacity 0 the set is
-    /// empty.
+    /// bit order of the type, and an index at or past the capacity wraps. With capacity 0 the set
+    /// is empty. The call costs O(words), and O(1) for each index.
     ///
     /// ```
     /// <[u8; 2]>::from_indexes(&[0, 7, 9]);                // [0x81, 0x02]
@@ -285,9 +288,9 @@ pub trait BitsOwnedExt: BitsOwned {
 
     /// Returns the set in which exactly the bits at the indexes of `indexes` are set. `indexes` is
     /// an array, a `Vec`, a range or an iterator. Indexes follow the bit order of the type, and an
-    /// index past the capacity wraps. With capacity 0 the set is empty.
+    /// index at or past the capacity wraps. With capacity 0 the set is empty.
     ///
-    /// The iterator has to end.
+    /// The iterator has to end. The call costs O(words), and O(1) for each index.
     ///
     /// ```
     /// <[u8; 2]>::from_iter(6..11);                        // [0xC0, 0x07]

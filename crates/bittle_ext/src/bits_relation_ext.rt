@@ -41,6 +41,7 @@ pub trait BitsRelationExt: Bits + Sized {
         ensures first { IsFirstCommon (set_in Self.Shape Self.Order.Endian self.now)
             (set_in B.Shape B.Order.Endian other.now) result }
         ensures below { IfSome result (λ index. index < (Self.big self.now).capacity) }
+        ensures below_other { IfSome result (λ index. index < (B.big other.now).capacity) }
     {
         let end = capacity_of::<Self, Self::Order>(self).min(capacity_of::<B, B::Order>(other));
         first_below::<Self, B, Self::Order, B::Order, Ones>(self, other, end)
@@ -155,6 +156,7 @@ pub trait BitsRelationExt: Bits + Sized {
         ensures at_most { result ≤ (Self.big self.now).capacity }
         ensures at_most_ours { result ≤ size (Self.big self.now) }
         ensures at_most_theirs { result ≤ size (B.big other.now) }
+        ensures at_most_other { result ≤ (B.big other.now).capacity }
     {
         count_common::<Self, B, Self::Order, B::Order>(self, other)
     }
@@ -175,6 +177,7 @@ pub trait BitsRelationExt: Bits + Sized {
             let theirs = set_in B.Shape B.Order.Endian other.now in
             result ≡ size (first_only_of ours theirs) }
         ensures at_most { result ≤ (Self.big self.now).capacity }
+        ensures at_most_ours { result ≤ size (Self.big self.now) }
     {
         if are_alike::<Self, B, Self::Order, B::Order>() {
             return OfBoth::<'_, Self, B, Self::Order, B::Order, Difference>::of_first(

@@ -18,9 +18,10 @@ use std::ops::RangeBounds;
 ///
 /// The shape has to fit (`bits_capacity() < u32::MAX`). A range that names no end goes up to the
 /// capacity. The range must not run backwards, and has to end at or below the capacity: no index
-/// wraps. Only the words of the range are written. An empty range changes nothing; with capacity 0
-/// only an empty range is allowed. The bit order (big- or little-endian) is that of the type; for
-/// another order, use the view that [`in_order_mut`](crate::BitsMutViewExt::in_order_mut) returns.
+/// wraps. A range `a..=b` that was iterated over before is not allowed. Only the words of the range
+/// are written. An empty range changes nothing; with capacity 0 only an empty range is allowed. The
+/// bit order (big- or little-endian) is that of the type; for another order, use the view that
+/// [`in_order_mut`](crate::BitsMutViewExt::in_order_mut) returns.
 pub trait BitsSpanMutExt: BitsMut + Sized {
     /// Sets each bit of the range, with one mask per word.
     ///

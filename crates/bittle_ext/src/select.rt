@@ -1,5 +1,5 @@
 //! Finds a set bit by its rank, which is the number of set bits below it. Counts of whole words
-//! find the word of the bit, and halving finds its place in that word.
+//! find the word of the bit, and halving finds its index in that word.
 
 ghost use Rattle.std.specs.Prelude.{◌≡◌, ◌+◌, ◌*◌, ◌/◌, ◌^◌, ◌<◌, true, MatchOption};
 ghost use Rattle.bittle_ext.specs.Ranks.{HasNoRank, IsInWord};

@@ -1,6 +1,7 @@
-//! Rotates all bits of a set in place. If fewer bits pass index 0 than two words have, or at most
-//! so many pass the last index, the one or two words that they come to are computed first, and then
-//! a shift moves the other bits. Else whole words are rotated first, by three reversals.
+//! Rotates all bits of a set in place. A rotation by few bits, in either direction, first computes
+//! the one or two words that wrapped bits come to. A shift then moves the other bits. A longer
+//! rotation first rotates whole words, by three reversals. "Few" means fewer than two words have
+//! downward, and at most as many upward.
 
 ghost use Rattle.std.specs.Prelude.{◌≡◌, ◌+◌, ◌*◌, ◌<◌, ◌≤◌};
 ghost use Rattle.bittle_ext.specs.Rotations.{exchanged, HasWordsOf, mirrored_within};
@@ -77,8 +78,8 @@ fn turn_word<B: BitsMut, E: Endian>(set: &mut B, by: u32)
     set.set_nth_leaf_word(0, window::<B::LeafWord, E>(word, word, by));
 }
 
-/// Moves each bit down by `by`, where two words have more than `by` bits. A bit that passes index 0
-/// goes on at the last index.
+/// Moves each bit down by `by`, which is less than the width of two words. A bit that passes index
+/// 0 goes on at the last index.
 ///
 /// In the result, one or two words at the end have bits that passed index 0. These words are
 /// computed before the shift, and written after it.
@@ -109,8 +110,8 @@ fn turn_bits<B: BitsMut, E: Endian>(set: &mut B, by: u32)
     }
 }
 
-/// Rotates the bits down by `by`. For this each bit moves up by `capacity - by`, where two words
-/// have at least so many bits. A bit that passes the last index goes on at 0.
+/// Rotates the bits down by `by`. For this each bit moves up by `capacity - by`, which is at most
+/// the width of two words. A bit that passes the last index goes on at 0.
 ///
 /// In the result, one or two words at the start have bits that passed the last index. These words
 /// are computed before the shift, and written after it.

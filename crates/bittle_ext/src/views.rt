@@ -67,8 +67,8 @@ pub trait BitsViewExt: Bits {
     ///
     /// The sets may be of different types, and both have to fit (`bits_capacity() < u32::MAX`).
     /// Each word is computed when it is read. If the words of the two sets differ in width or
-    /// order, the set bits of `other` in that word are searched for one by one. Bits of `other` at
-    /// or past its capacity count as unset. With capacity 0 the view is the empty set.
+    /// order, the words of `other` with bits of that word are converted. Bits of `other` at or past
+    /// its capacity count as unset. With capacity 0 the view is the empty set.
     ///
     /// ```
     /// 0b0011u8.and(&0b0110u8).count_ones();               // 1
@@ -137,9 +137,9 @@ pub trait BitsViewExt: Bits {
     /// both sets have the same type. The view is a set with the greater of the two capacities, and
     /// with the bit order of this set.
     ///
-    /// Both sets have to fit (`bits_capacity() < u32::MAX`). Each word is computed when it is read.
-    /// If the word types differ, call [`or_unlike`](BitsViewExt::or_unlike). If both capacities are
-    /// 0, the view is the empty set.
+    /// Both sets have to fit (`bits_capacity() < u32::MAX`). Each word is computed when it is read;
+    /// if the orders differ, the word of `other` is reversed. If the word types differ, call
+    /// [`or_unlike`](BitsViewExt::or_unlike). If both capacities are 0, the view is the empty set.
     ///
     /// ```
     /// 0b0011u8.or(&[0b0110u8, 1]).iter_ones();            // yields 0, 1, 2, 8
@@ -214,8 +214,8 @@ pub trait BitsViewExt: Bits {
     /// Both sets have to fit (`bits_capacity() < u32::MAX`). The view's capacity is the greater of
     /// the two, rounded up to whole words of this set. The rounded capacity has to be below
     /// `u32::MAX` too. The rounding adds bits only if the words of this set are wider. Each word is
-    /// computed when it is read. If the words differ in width or order, the set bits of `other` in
-    /// that word are searched for one by one. If both capacities are 0, the view is the empty set.
+    /// computed when it is read. If the words differ in width or order, the words of `other` with
+    /// bits of that word are converted. If both capacities are 0, the view is the empty set.
     ///
     /// ```
     /// 0x8000_0000u32.or_unlike(&[0u8, 0, 0, 0, 1]).iter_ones(); // yields 31, 32
@@ -348,8 +348,9 @@ impl<A: Bits> BitsViewExt for A {}
 pub trait View: Bits + Copy {
     /// Returns a double-ended iterator over the indexes of the set bits, in increasing order.
     /// Indexes follow the bit order of the type. The iterator owns the view and borrows what the
-    /// view borrows, so a function that makes a view may return the iterator. The view has to fit,
-    /// as each `View` that this crate makes does. With capacity 0 the iterator yields nothing.
+    /// view borrows, so a function that makes a view may return the iterator. The view has to fit.
+    /// A view that `in_order` returns fits if its set does; each other `View` of this crate always
+    /// fits. With capacity 0 the iterator yields nothing.
     ///
     /// ```
     /// 0b0011u8.and(&0b0110u8).into_ones();                // yields 1
@@ -391,6 +392,8 @@ impl<'a, A: Bits, B: Bits, E: Endian, F: Endian, O: ViewOperation> View
     for OfBoth<'a, A, B, E, F, O> {}
 
 impl<'a, B: Bits> View for Complement<'a, B> {}
+
+impl<'a, B: Bits, E: Endian> View for InOrder<'a, B, E> {}
 
 impl<'a, B: Bits, E: Endian> View for Within<'a, B, E> {}
 

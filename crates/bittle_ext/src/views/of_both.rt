@@ -137,8 +137,8 @@ fn combines_groups<A: ReadWords, B: ReadWords, O: ViewOperation>() -> bool
 /// read in the order `E`.
 ///
 /// Each word is computed when it is read. If the words of the two sets differ in width or order,
-/// the second set's set bits in that word are searched for one by one. `R` says whether every word
-/// that is read is known to exist in both sets.
+/// the second set's words with bits of that word are converted. `R` says whether every word that is
+/// read is known to exist in both sets.
 #[derive(Drop)]
 pub struct OfBoth<'a, A: Shape, B: Shape, E: Endian, F: Endian, O: Operation, R: Reach = Part> {
     left: &'a A,

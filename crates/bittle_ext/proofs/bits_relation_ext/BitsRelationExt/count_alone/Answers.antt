@@ -1,7 +1,10 @@
-use Rattle.std.proofs.Common.{length, sym, ap, ◌∙◌}
+use Rattle.std.proofs.Common.{length, sym, ap, ◌∙◌, arith}
+use Rattle.bittle.specs.PlainSet.{PlainSet, size}
 use Rattle.bittle.specs.Values.{set_in}
 use Rattle.bittle_bits.proofs.AscendingLists.{ascending-length}
+use Rattle.bittle_bits.proofs.Sizes.{size-members}
 use Rattle.bittle_ext.specs.Combined.{first_only_of}
+use Rattle.bittle_ext.proofs.CommonCounts.{all_numbers}
 use Rattle.bittle_ext.proofs.bits_relation_ext.BitsRelationExt.count_alone.Goals as goal
 
 pub returns-then-are_alike-clause-value : goal.returns-then-are_alike-clause-value
@@ -10,3 +13,17 @@ returns-then-are_alike-clause-value g c =
     (set_in g.B.Shape g.B.Order.Endian c.args.other.now) in
     c.count_ones.ensures.in_each_order g.Self.Order.Endian.mirrored ∙ sym (ascending-length _)
     ∙ ap length c.of_first.ensures.items ∙ ascending-length alone
+
+pub returns-then-are_alike-clause-at_most_ours : goal.returns-then-are_alike-clause-at_most_ours
+returns-then-are_alike-clause-at_most_ours g c =
+    let b = g.met.Self.ReadWords in
+    let m = g.Self.Order.Endian.mirrored in
+    let big = g.Self.Shape.big c.args.self.now in
+    let s : PlainSet = set_in g.Self.Shape g.Self.Order.Endian c.args.self.now in
+    let t : PlainSet = set_in g.B.Shape g.B.Order.Endian c.args.other.now in
+    omega (
+      arith,
+      c.count_ones.ensures.in_each_order m ∙ ap size c.of_first.ensures.set,
+      (all_numbers s.capacity s.has t.has).0,
+      size-members m _ big b.width_positive (b.whole_words c.args.self.now),
+    )

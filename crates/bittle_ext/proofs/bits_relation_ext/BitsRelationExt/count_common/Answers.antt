@@ -11,3 +11,10 @@ returns-clause-at_most g c = omega (
 
 pub returns-clause-at_most_ours : goal.returns-clause-at_most_ours
 returns-clause-at_most_ours g c = omega (arith, c.count_common.ensures.first_only)
+
+pub returns-clause-at_most_other : goal.returns-clause-at_most_other
+returns-clause-at_most_other g c = omega (
+  arith,
+  c.count_common.ensures.few,
+  size-le (g.B.Shape.big c.args.other.now),
+)

@@ -24,3 +24,22 @@ returns-clause-value g c =
       part.ordered,
     ) in
     here ∙ count_of_part c.part_of-start.ensures.others part
+
+pub returns-clause-at_most_all : goal.returns-clause-at_most_all
+returns-clause-at_most_all g c =
+    let s = set_in g.Self.Shape g.Self.Order.Endian c.args.self.now in
+    let part = c.part_of-start.ensures.part in
+    let start = c.part_of-start.result.0 in
+    let end = c.part_of-start.result.1 in
+    let between = below_between s start end part.ordered in
+    let few = below_between (complement s) end s.capacity part.inside in
+    omega (
+      arith,
+      few.0,
+      c.count_ones_in_range_in.ensures.value,
+      below_others s start (omega (arith, part.ordered, part.inside)),
+      below_others s end part.inside,
+      between.0,
+      between.1,
+      part.ordered,
+    )
