@@ -1,6 +1,6 @@
 -- The most urgent ready task, and how a search finds it.
 use Rattle.std.proofs.Common.{◌≡◌, ℕ, ◌<◌, true, false, not, cond, ◌&&◌, ◌||◌, ◌==◌, nat_lt, Option, Some, None, List, [], ◌∷◌, inl, inr, refl, sym, ap, ◌∙◌, subst, arith}
-use Rattle.std.proofs.lemmas.Bool.{cases_lt, eq-eqb, lt-ltb, and_right, true≢false}
+use Rattle.std.proofs.lemmas.Bool.{cases_lt, eq-eqb, ne_eqb, lt-ltb, and_right, true≢false}
 use Rattle.std.specs.Prelude.{MatchOption, slice_get}
 use Rattle.bittle.specs.PlainSet.{PlainSet, ascending, contains, with_index, without_index}
 use Rattle.bittle.specs.Searches.{NoneIn, IsFirstIn}
@@ -85,6 +85,10 @@ module _ (s t : PlainSet) (task : ℕ) (h : task < s.capacity) (after : t ≡ wi
       ∙ ap (λ b. b && ((task == task) || s.has task)) (lt-ltb task s.capacity h)
       ∙ ap (λ b. b || s.has task) (eq-eqb task task refl)
 
+  pub wakes_no_other : (other : ℕ) → (other ≡ task → ⊥) → is_ready t other ≡ is_ready s other
+  wakes_no_other other apart = ap (λ u. is_ready u other) (after ∙ with_index_within s task h)
+      ∙ ap (λ b. nat_lt other s.capacity && (b || s.has other)) (ne_eqb other task apart)
+
 -- the set without a task that runs
 module _ (s t : PlainSet) (task : ℕ) (h : task < s.capacity) (after : t ≡ without_index s task) where
   pub is_taken_out : t ≡ without_task s task
@@ -94,3 +98,9 @@ module _ (s t : PlainSet) (task : ℕ) (h : task < s.capacity) (after : t ≡ wi
   now_rests = ap (λ u. is_ready u task) is_taken_out
       ∙ ap (λ b. nat_lt task s.capacity && (not b && s.has task)) (eq-eqb task task refl)
       ∙ and_right (nat_lt task s.capacity) false refl
+
+  pub takes_no_other : (other : ℕ) → (Some task ≡ Some other → ⊥) →
+      is_ready t other ≡ is_ready s other
+  takes_no_other other apart = ap (λ u. is_ready u other) is_taken_out
+      ∙ ap (λ b. nat_lt other s.capacity && (not b && s.has other))
+      (ne_eqb other task (λ e. apart (ap Some (sym e))))

@@ -1,7 +1,7 @@
 //! The queue in which the ready tasks take turns.
 
 ghost use Rattle.std.specs.Prelude.{◌≡◌, ◌<◌, ◌≤◌, ◌↔◌, length, true, false, IfSome, IsOk};
-ghost use Rattle.std.specs.Prelude.{IsTrue, MatchOption};
+ghost use Rattle.std.specs.Prelude.{IsTrue, MatchOption, Some, ℕ, ◌≢◌};
 ghost use Rattle.bittle.specs.PlainSet.{empty_set};
 ghost use Rattle.bittle.specs.Searches.{NoneIn};
 ghost use Rattle.bittle.specs.Shapes.{Fits};
@@ -52,7 +52,8 @@ impl<B: BitsOwned> RoundRobin<B> {
 
     /// Returns whether the number is a task, and ready. A number past the last task is no task.
     pub fn is_ready(&self, task: u32) -> bool
-        ensures { result ≡ is_ready (set_in B.Shape B.Order.Endian self.now.ready) task }
+        ensures value { result ≡ is_ready (set_in B.Shape B.Order.Endian self.now.ready) task }
+        ensures below { IsTrue result → task < B.type_capacity }
     {
         task < B::bits() && self.ready.test_bit(task)
     }
@@ -63,6 +64,9 @@ impl<B: BitsOwned> RoundRobin<B> {
         ensures a_task { IsOk result ↔ task < B.type_capacity }
         ensures is_ready { task < B.type_capacity
             → is_ready (set_in B.Shape B.Order.Endian self.new.ready) task ≡ true }
+        ensures others { (other : ℕ) → other ≢ task
+            → is_ready (set_in B.Shape B.Order.Endian self.new.ready) other
+            ≡ is_ready (set_in B.Shape B.Order.Endian self.old.ready) other }
         ensures round { round_at (set_in B.Shape B.Order.Endian self.new.ready) self.new.turn
             ≡ round_after (round_at (set_in B.Shape B.Order.Endian self.old.ready) self.old.turn)
             (Event.Wake task) }
@@ -100,6 +104,9 @@ impl<B: BitsOwned> RoundRobin<B> {
             (λ task. is_ready (set_in B.Shape B.Order.Endian self.old.ready) task ≡ true) }
         ensures rests { IfSome result
             (λ task. is_ready (set_in B.Shape B.Order.Endian self.new.ready) task ≡ false) }
+        ensures others { (other : ℕ) → result ≢ Some other
+            → is_ready (set_in B.Shape B.Order.Endian self.new.ready) other
+            ≡ is_ready (set_in B.Shape B.Order.Endian self.old.ready) other }
         ensures round { round_at (set_in B.Shape B.Order.Endian self.new.ready) self.new.turn
             ≡ round_after (round_at (set_in B.Shape B.Order.Endian self.old.ready) self.old.turn)
             Event.Next }

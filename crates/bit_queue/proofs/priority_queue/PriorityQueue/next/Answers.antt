@@ -2,7 +2,7 @@ use Rattle.std.proofs.Common.{Some, None, sym, ap, ◌∙◌, arith}
 use Rattle.bittle.specs.PlainSet.{PlainSet}
 use Rattle.bittle.specs.Values.{set_in}
 use Rattle.bit_queue.specs.Queue.{without_picked}
-use Rattle.bit_queue.proofs.Urgency.{most_urgent-found, is_taken_out, now_rests}
+use Rattle.bit_queue.proofs.Urgency.{most_urgent-found, is_taken_out, now_rests, takes_no_other}
 use Rattle.bit_queue.proofs.priority_queue.PriorityQueue.next.Goals as goal
 
 pub returns-in_err-task-clause-task : goal.returns-in_err-task-clause-task
@@ -40,3 +40,10 @@ returns-clause-ready g c =
     is_taken_out s _ c.in_ok-task.task (omega (arith, capacity, bits, c.in_ok-task.ensures.1))
     c.clear_bit.ensures.set
     ∙ ap (without_picked s) (returns-clause-task g c)
+
+pub returns-clause-others : goal.returns-clause-others
+returns-clause-others g c =
+    let capacity = g.met.B.FixedCapacity.one_capacity c.args.self.now.ready in
+    let bits = c.bits.ensures.value c.args.self.now.fits in
+    takes_no_other _ _ c.in_ok-task.task (omega (arith, capacity, bits, c.in_ok-task.ensures.1))
+    c.clear_bit.ensures.set

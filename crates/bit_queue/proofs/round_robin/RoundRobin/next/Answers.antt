@@ -3,7 +3,7 @@ use Rattle.bittle.specs.PlainSet.{PlainSet}
 use Rattle.bittle.specs.Values.{set_in}
 use Rattle.bit_queue.specs.RoundRobin.{round_at, past_picked}
 use Rattle.bit_queue.proofs.Turns.{next_found}
-use Rattle.bit_queue.proofs.Urgency.{ready-member, is_taken_out, now_rests}
+use Rattle.bit_queue.proofs.Urgency.{ready-member, is_taken_out, now_rests, takes_no_other}
 use Rattle.bit_queue.proofs.round_robin.RoundRobin.next.Goals as goal
 
 pub returns-in_err-task-clause-next : goal.returns-in_err-task-clause-next
@@ -53,3 +53,9 @@ returns-clause-round g c =
     ap (λ t. round_at t (c.in_ok-task.task + 1))
     (is_taken_out s _ c.in_ok-task.task next.within c.clear_bit.ensures.set)
     ∙ ap (past_picked (round_at s c.args.self.now.turn)) c.in_ok-task.ensures
+
+pub returns-clause-others : goal.returns-clause-others
+returns-clause-others g c =
+    let s : PlainSet = set_in g.B.Shape g.B.Order.Endian c.args.self.now.ready in
+    let next = returns-clause-next g c in
+    takes_no_other s _ c.in_ok-task.task next.within c.clear_bit.ensures.set
