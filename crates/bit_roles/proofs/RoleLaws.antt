@@ -1,11 +1,13 @@
 -- What follows from the role machine.
 use Rattle.std.proofs.Common.{◌≡◌, ℕ, zero, suc, ◌+◌, ◌<◌, ◌≤◌, ◌⊎◌, Bool, true, false, cond, ◌&&◌, ◌||◌, ◌==◌, nat_lt, Option, Some, None, List, [], ◌∷◌, inl, inr, refl, sym, ap, ◌∙◌, arith}
 use Rattle.std.specs.List.{list_any}
-use Rattle.std.proofs.lemmas.Bool.{cases_eq, lt-ltb, ltb-true, eq-eqb, ne_eqb, or_right, and_parts}
-use Rattle.bit_roles.specs.Roles.{Roles, parent_of, ancestor, Allows, HasLesserParents, may_grant, may_inherit, with_granted, with_parent, roles_after, final_roles}
-use Rattle.bit_roles.specs.RoleLaws.{grants}
+use Rattle.std.proofs.lemmas.Bool.{cases_eq, lt-ltb, ltb-true, eq-eqb, ne_eqb, or_right, and_parts, and_right}
+use Rattle.std.proofs.lemmas.Option.{same_Some}
+use Rattle.bit_roles.specs.Roles.{Roles, parent_of, ancestor, Allows, HasLesserParents, may_grant, may_inherit, with_granted, with_parent, answer_to, roles_after, request_answers, final_roles}
+use Rattle.bit_roles.specs.RoleLaws.{grants, GivesParent, GivesNoParentFrom}
 use Rattle.bit_roles.specs.declared.Request.{Request}
 use Rattle.bit_roles.specs.declared.Request.TheVariants.{Grant, Inherit}
+use Rattle.bit_roles.specs.declared.Answer.TheVariants.{Done, Refused}
 
 -- the role that n + 1 parents lead to from a role is the one that n parents lead to from its parent
 ancestor_up : (r : Roles) (role parent n : ℕ) → r.parent role ≡ Some parent →
@@ -181,6 +183,41 @@ now_granted r role permission h l =
     granted_one r (Grant role permission) role permission h l
     ∙ or_right (r.granted role permission) ((role == role) && (permission == permission)) both
 
+-- a grant of one permission to one role grants nothing else
+unless_granted : (r : Roles) (role permission other more : ℕ) →
+    ((other == role) && (more == permission)) ≡ false →
+    (roles_after r (Grant role permission)).granted other more ≡ r.granted other more
+unless_granted r role permission other more apart = by (may_grant r role permission)
+  where
+    by : (b : Bool) → (cond b (with_granted r role permission) r).granted other more
+        ≡ r.granted other more
+    by true = ap (λ b. b || r.granted other more) apart
+    by false = refl
+
+-- a grant changes no permission of another role
+pub other_roles_keep : (r : Roles) (role permission other more : ℕ) → (other ≡ role → ⊥) →
+    (roles_after r (Grant role permission)).granted other more ≡ r.granted other more
+other_roles_keep r role permission other more apart =
+    unless_granted r role permission other more
+    (ap (λ b. b && (more == permission)) (ne_eqb other role apart))
+
+-- a grant changes no other permission of any role
+pub other_permissions_keep : (r : Roles) (role permission other more : ℕ) →
+    (more ≡ permission → ⊥) →
+    (roles_after r (Grant role permission)).granted other more ≡ r.granted other more
+other_permissions_keep r role permission other more apart =
+    unless_granted r role permission other more
+    (and_right (other == role) (more == permission) (ne_eqb more permission apart))
+
+-- a parent that is given to a role changes no parent of another role
+pub other_parents_keep : (r : Roles) (role parent other : ℕ) → (other ≡ role → ⊥) →
+    (roles_after r (Inherit role parent)).parent other ≡ r.parent other
+other_parents_keep r role parent other apart = by (may_inherit r role parent)
+  where
+    by : (b : Bool) → (cond b (with_parent r role parent) r).parent other ≡ r.parent other
+    by true = ap (λ b. cond b (Some parent) (r.parent other)) (ne_eqb other role apart)
+    by false = refl
+
 -- a request keeps how many roles and permissions there are
 same_counts : (r : Roles) (request : Request) →
     ((roles_after r request).count ≡ r.count) × ((roles_after r request).permissions ≡ r.permissions)
@@ -219,3 +256,65 @@ granted_run r (request ∷ requests) role permission h l =
     (granted_one r request role permission h l)
     ∙ either (r.granted role permission) (grants role permission request)
     (list_any (grants role permission) requests)
+
+-- a request that does not give a role a parent leaves the role's parent
+one_kept : (r : Roles) (request : Request) (role : ℕ) →
+    ((parent : ℕ) → (Some request ≡ Some (Inherit role parent))
+    × (Some (answer_to r request) ≡ Some Done) → ⊥) →
+    (roles_after r request).parent role ≡ r.parent role
+one_kept r (Grant other permission) role none = by (may_grant r other permission)
+  where
+    by : (b : Bool) → (cond b (with_granted r other permission) r).parent role ≡ r.parent role
+    by true = refl
+    by false = refl
+one_kept r (Inherit other parent) role none = elim (cases_eq role other) [
+  | inl same ↦ by same (may_inherit r other parent) refl
+  | inr apart ↦ other_parents_keep r other parent role apart
+]
+  where
+    by : role ≡ other → (b : Bool) → may_inherit r other parent ≡ b →
+        (cond b (with_parent r other parent) r).parent role ≡ r.parent role
+    by same true e = absurd (none parent (
+      ap (λ k. Some (Inherit k parent)) (sym same),
+      ap (λ b. Some (cond b Done Refused)) e,
+    ))
+    by same false e = refl
+
+-- a role that no request gives a parent keeps its parent
+pub parent_kept : (r : Roles) (requests : List Request) (role : ℕ) →
+    GivesNoParentFrom requests (request_answers r requests) role 0 →
+    (final_roles r requests).parent role ≡ r.parent role
+unfolding final_roles request_answers
+parent_kept r [] role none = refl
+parent_kept r (request ∷ requests) role none =
+    parent_kept (roles_after r request) requests role
+    (λ j p _ given. none (suc j) p (omega arith) given)
+    ∙ one_kept r request role (λ p given. none 0 p (omega arith) given)
+
+-- a request that is answered by Done gives the role its parent
+one_given : (r : Roles) (request : Request) (role parent : ℕ) → request ≡ Inherit role parent →
+    answer_to r request ≡ Done → (roles_after r request).parent role ≡ Some parent
+one_given r request role parent is done =
+    ap (λ q. (roles_after r q).parent role) is
+    ∙ by (may_inherit r role parent) (sym (ap (answer_to r) is) ∙ done)
+  where
+    by : (b : Bool) → cond b Done Refused ≡ Done →
+        (cond b (with_parent r role parent) r).parent role ≡ Some parent
+    by true e = ap (λ b. cond b (Some parent) (r.parent role)) (eq-eqb role role refl)
+    by false e = absurd (cc)
+
+-- the parent of a role is the one that it was given last
+pub last_given : (r : Roles) (requests : List Request) (role parent i : ℕ) →
+    GivesParent requests (request_answers r requests) role parent i →
+    GivesNoParentFrom requests (request_answers r requests) role (i + 1) →
+    (final_roles r requests).parent role ≡ Some parent
+unfolding final_roles request_answers
+last_given r [] role parent i given none = absurd (cc (given.0))
+last_given r (request ∷ requests) role parent zero given none =
+    parent_kept (roles_after r request) requests role
+    (λ j p _ later. none (suc j) p (omega arith) later)
+    ∙ one_given r request role parent (same_Some request (Inherit role parent) given.0)
+    (same_Some (answer_to r request) Done given.1)
+last_given r (request ∷ requests) role parent (suc i) given none =
+    last_given (roles_after r request) requests role parent i given
+    (λ j p h later. none (suc j) p (omega (arith, h)) later)
