@@ -16,7 +16,8 @@
 //! ```
 #![tactic(auto)]
 
-ghost use Rattle.std.specs.Prelude.{◌≡◌, ◌<◌, ◌↔◌, length, true, Some, IfSome, IsOk, IsTrue};
+ghost use Rattle.std.specs.Prelude.{◌≡◌, ◌≢◌, ℕ, ◌<◌, ◌↔◌, length, true, Some, IfSome, IsOk};
+ghost use Rattle.std.specs.Prelude.{IsTrue};
 ghost use Rattle.bittle.specs.Shapes.{Fits};
 ghost use Rattle.bittle.specs.Values.{set_in};
 ghost use Rattle.bit_roles.specs.Roles.{roles_of, bare_roles, Allows, HasLesserParents};
@@ -98,6 +99,17 @@ impl<B: BitsOwned, const N: usize> Roles<B, N> {
         ensures granted { let after = roles_of N B.type_capacity (set_in B.Shape B.Order.Endian)
             self.new.granted self.new.parents in
             IsOk result → after.granted role permission ≡ true }
+        ensures other_roles { let before = roles_of N B.type_capacity
+            (set_in B.Shape B.Order.Endian) self.old.granted self.old.parents in
+            let after = roles_of N B.type_capacity (set_in B.Shape B.Order.Endian)
+            self.new.granted self.new.parents in (other more : ℕ) → other ≢ role
+            → after.granted other more ≡ before.granted other more }
+        ensures other_permissions { let before = roles_of N B.type_capacity
+            (set_in B.Shape B.Order.Endian) self.old.granted self.old.parents in
+            let after = roles_of N B.type_capacity (set_in B.Shape B.Order.Endian)
+            self.new.granted self.new.parents in (other more : ℕ) → more ≢ permission
+            → after.granted other more ≡ before.granted other more }
+        ensures parents { self.new.parents ≡ self.old.parents }
         ensures roles { roles_of N B.type_capacity (set_in B.Shape B.Order.Endian)
             self.new.granted self.new.parents
             ≡ roles_after (roles_of N B.type_capacity (set_in B.Shape B.Order.Endian)
@@ -116,6 +128,12 @@ impl<B: BitsOwned, const N: usize> Roles<B, N> {
         ensures done { IsOk result ↔ ((role < N) × (parent < role)) }
         ensures parent { let after = roles_of N B.type_capacity (set_in B.Shape B.Order.Endian)
             self.new.granted self.new.parents in IsOk result → after.parent role ≡ Some parent }
+        ensures others { let before = roles_of N B.type_capacity
+            (set_in B.Shape B.Order.Endian) self.old.granted self.old.parents in
+            let after = roles_of N B.type_capacity (set_in B.Shape B.Order.Endian)
+            self.new.granted self.new.parents in (other : ℕ) → other ≢ role
+            → after.parent other ≡ before.parent other }
+        ensures granted { self.new.granted ≡ self.old.granted }
         ensures roles { roles_of N B.type_capacity (set_in B.Shape B.Order.Endian)
             self.new.granted self.new.parents
             ≡ roles_after (roles_of N B.type_capacity (set_in B.Shape B.Order.Endian)
@@ -131,8 +149,10 @@ impl<B: BitsOwned, const N: usize> Roles<B, N> {
     /// Returns whether a permission was granted to the role itself. It returns `false` if there is
     /// no such role or permission.
     pub fn is_granted(&self, role: u32, permission: u32) -> bool
-        ensures { let roles = roles_of N B.type_capacity (set_in B.Shape B.Order.Endian)
+        ensures value { let roles = roles_of N B.type_capacity (set_in B.Shape B.Order.Endian)
             self.now.granted self.now.parents in result ≡ roles.granted role permission }
+        ensures a_role { IsTrue result → role < N }
+        ensures a_permission { IsTrue result → permission < B.type_capacity }
     {
         match self.granted.get(role as usize) {
             Some(set) => permission < B::bits() && set.test_bit(permission),
@@ -145,6 +165,7 @@ impl<B: BitsOwned, const N: usize> Roles<B, N> {
         ensures value { let roles = roles_of N B.type_capacity (set_in B.Shape B.Order.Endian)
             self.now.granted self.now.parents in result ≡ roles.parent role }
         ensures lesser { IfSome result (λ parent. parent < role) }
+        ensures a_role { IfSome result (λ _. role < N) }
     {
         match self.parents.get(role as usize) {
             Some(parent) => *parent,
@@ -156,8 +177,10 @@ impl<B: BitsOwned, const N: usize> Roles<B, N> {
     /// itself, or to a role that its chain of parents leads to. The call tests one bit for each
     /// role of the chain, up to the first that was granted the permission.
     pub fn allows(&self, role: u32, permission: u32) -> bool
-        ensures { IsTrue result ↔ Allows (roles_of N B.type_capacity
+        ensures value { IsTrue result ↔ Allows (roles_of N B.type_capacity
             (set_in B.Shape B.Order.Endian) self.now.granted self.now.parents) role permission }
+        ensures a_role { IsTrue result → role < N }
+        ensures a_permission { IsTrue result → permission < B.type_capacity }
     {
         let mut at = role;
         while !self.is_granted(at, permission) {

@@ -12,33 +12,38 @@ loop-at-preserved g c =
     let so_far = c.loop-at.invariant.same in
     let up = sym c.in-Some.ensures.value in
     let none : roles.granted c.loop-at.at c.args.permission ≡ false =
-    sym c.is_granted.ensures ∙ c.loop-at-test.true in
+    sym c.is_granted.ensures.value ∙ c.loop-at-test.true in
     record {
       same = (
         λ a. so_far.0 (allows_up roles c.loop-at.at c.in-Some.parent c.args.permission up a),
         λ a.
             allows_down roles c.loop-at.at c.in-Some.parent c.args.permission up none (so_far.1 a),
       );
+      inside = λ _. c.loop-at.invariant.inside c.in-Some.ensures.a_role;
     }
 
-pub returns-in-None : goal.returns-in-None
-returns-in-None g c =
+pub returns-in-None-clause-value : goal.returns-in-None-clause-value
+returns-in-None-clause-value g c =
     let roles : Roles = roles_of g.row.N g.B.Shape.type_capacity
     (set_in g.B.Shape g.B.Order.Endian) c.args.self.now.granted c.args.self.now.parents in
     let so_far = c.loop-at.invariant.same in
     let none : roles.granted c.loop-at.at c.args.permission ≡ false =
-    sym c.is_granted.ensures ∙ c.loop-at-test.true in (
+    sym c.is_granted.ensures.value ∙ c.loop-at-test.true in (
       λ no. absurd (true≢false (sym no)),
       λ a. absurd (allows_nothing roles c.loop-at.at c.args.permission
           (sym c.in-None.ensures.value) none (so_far.1 a)),
     )
 
-pub returns : goal.returns
-returns g c =
+pub returns-clause-value : goal.returns-clause-value
+returns-clause-value g c =
     let roles : Roles = roles_of g.row.N g.B.Shape.type_capacity
     (set_in g.B.Shape g.B.Order.Endian) c.args.self.now.granted c.args.self.now.parents in
     let so_far = c.loop-at.invariant.same in (
       λ yes. so_far.0 (allows_granted roles c.loop-at.at c.args.permission
-          (sym c.is_granted.ensures ∙ c.loop-at-test.false)),
+          (sym c.is_granted.ensures.value ∙ c.loop-at-test.false)),
       λ a. refl,
     )
+
+pub returns-clause-a_role : goal.returns-clause-a_role
+returns-clause-a_role g c _ =
+    c.loop-at.invariant.inside (c.is_granted.ensures.a_role c.loop-at-test.false)

@@ -4,8 +4,8 @@ use Rattle.bittle.specs.Values.{set_in}
 use Rattle.bit_roles.proofs.Rows.{permission_within, permission_none}
 use Rattle.bit_roles.proofs.Roles.is_granted.Goals as goal
 
-pub returns-then-permission-bits : goal.returns-then-permission-bits
-returns-then-permission-bits g c =
+pub returns-then-permission-bits-clause-value : goal.returns-then-permission-bits-clause-value
+returns-then-permission-bits-clause-value g c =
     let granted = c.args.self.now.granted in
     let found = c.in-Some.ensures.lookup in
     let capacity = g.met.B.FixedCapacity.one_capacity c.in-Some.set.now in
@@ -15,6 +15,7 @@ returns-then-permission-bits g c =
     (slice_get_read granted (length granted) c.args.role c.in-Some.set.now refl found.3.0 found.1)
     (omega (arith, capacity, bits, c.if-permission-bits.true))
 
-pub returns-in-None : goal.returns-in-None
-returns-in-None g c = permission_none (set_in g.B.Shape g.B.Order.Endian) _ c.args.permission
+pub returns-in-None-clause-value : goal.returns-in-None-clause-value
+returns-in-None-clause-value g c =
+    permission_none (set_in g.B.Shape g.B.Order.Endian) _ c.args.permission
     (slice_get_past c.args.self.now.granted c.args.role c.in-None.ensures.lookup.3)
