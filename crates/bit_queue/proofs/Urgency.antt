@@ -1,11 +1,11 @@
 -- The most urgent ready task, and how a search finds it.
-use Rattle.std.proofs.Common.{◌≡◌, ℕ, ◌<◌, true, false, not, cond, ◌&&◌, ◌||◌, ◌==◌, nat_lt, Option, Some, None, List, [], ◌∷◌, inl, inr, refl, sym, ap, ◌∙◌, subst, arith}
-use Rattle.std.proofs.lemmas.Bool.{cases_lt, eq-eqb, ne_eqb, lt-ltb, and_right, true≢false}
-use Rattle.std.specs.Prelude.{MatchOption, slice_get}
-use Rattle.bittle.specs.PlainSet.{PlainSet, ascending, contains, with_index, without_index}
+use Rattle.std.proofs.Common.{◌≡◌, ℕ, ◌<◌, ◌↔◌, Bool, true, false, not, cond, ◌&&◌, ◌||◌, ◌==◌, nat_lt, Option, Some, None, List, [], ◌∷◌, inl, inr, refl, sym, ap, ◌∙◌, subst, arith}
+use Rattle.std.proofs.lemmas.Bool.{cases_lt, eq-eqb, eqb-true, ne_eqb, lt-ltb, and_right, true≢false}
+use Rattle.std.specs.Prelude.{MatchOption, IsTrue, slice_get}
+use Rattle.bittle.specs.PlainSet.{PlainSet, ascending, contains, with_index, without_index, size}
 use Rattle.bittle.specs.Searches.{NoneIn, IsFirstIn}
 use Rattle.bittle.proofs.CallerLists.{ascending_none, ascending_first}
-use Rattle.bittle.proofs.CallerSets.{contains_within, with_index_within, without_index_within}
+use Rattle.bittle.proofs.CallerSets.{contains_within, with_index_within, without_index_within, size_none, size_zero}
 use Rattle.bit_queue.specs.Queue.{is_ready, most_urgent, with_task, without_task, with_woken}
 use Rattle.bit_queue.specs.QueueLaws.{IsMostUrgent}
 
@@ -62,6 +62,22 @@ pub most_urgent-found : (s : PlainSet) (end : ℕ) (found : Option ℕ) → end 
     IsFirstIn s 0 end found → found ≡ most_urgent s
 most_urgent-found s end found e first =
     most_urgent-first s found (subst (λ n. IsFirstIn s 0 n found) e first)
+
+-- the task that was found is the most urgent one, or nothing was found and no task is ready
+pub urgent_found : (s : PlainSet) (end : ℕ) (found : Option ℕ) → end ≡ s.capacity →
+    found ≡ most_urgent s → MatchOption found (NoneIn s 0 end) (IsMostUrgent s)
+urgent_found s end found all e =
+    subst (λ n. MatchOption found (NoneIn s 0 n) (IsMostUrgent s)) (sym all)
+    (subst (λ o. MatchOption o (NoneIn s 0 s.capacity) (IsMostUrgent s)) (sym e)
+    (most_urgent-is s))
+
+-- the number of ready tasks is 0 exactly if no task is ready
+pub none_ready : (s : PlainSet) (end : ℕ) (none : Bool) → end ≡ s.capacity →
+    none ≡ (size s == 0) → IsTrue none ↔ NoneIn s 0 end
+none_ready s end none all e = (
+  λ is. subst (λ n. NoneIn s 0 n) (sym all) (size_none s (eqb-true (size s) 0 (sym e ∙ is))),
+  λ empty. e ∙ eq-eqb (size s) 0 (size_zero s (subst (λ n. NoneIn s 0 n) all empty)),
+)
 
 -- a test of the set shows whether a task is ready
 pub is_ready-within : (s : PlainSet) (task : ℕ) → task < s.capacity →

@@ -11,13 +11,13 @@
 //! queue.wake(40);                   // Ok(())
 //! queue.wake(7);
 //! queue.wake(64);                   // Err(NoTask): there are 64 tasks, from 0 to 63
+//! queue.len();                      // 2
+//! queue.peek();                     // Some(7)
 //! queue.next();                     // Some(7)
 //! queue.next();                     // Some(40)
 //! queue.next();                     // None
 //!
-//! let mut turns = RoundRobin::<u64>::new();
-//! turns.wake(3);
-//! turns.wake(9);
+//! let mut turns = RoundRobin::<u64>::with_ready(1 << 3 | 1 << 9);
 //! turns.next();                     // Some(3)
 //! turns.wake(3);
 //! turns.next();                     // Some(9)

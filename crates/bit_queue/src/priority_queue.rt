@@ -2,7 +2,7 @@
 
 ghost use Rattle.std.specs.Prelude.{◌≡◌, ◌<◌, ◌↔◌, length, true, false, IfSome, IsOk};
 ghost use Rattle.std.specs.Prelude.{IsTrue, MatchOption, Some, ℕ, ◌≢◌};
-ghost use Rattle.bittle.specs.PlainSet.{empty_set};
+ghost use Rattle.bittle.specs.PlainSet.{empty_set, size};
 ghost use Rattle.bittle.specs.Searches.{NoneIn};
 ghost use Rattle.bittle.specs.Shapes.{Fits};
 ghost use Rattle.bittle.specs.Values.{set_in};
@@ -31,7 +31,41 @@ impl<B: BitsOwned> PriorityQueue<B> {
         requires { IsTrue B.indexable }
         ensures { set_in B.Shape B.Order.Endian result.ready ≡ empty_set B.type_capacity }
     {
-        PriorityQueue { ready: B::zeros() }
+        PriorityQueue::with_ready(B::zeros())
+    }
+
+    /// Returns a queue in which a task is ready if its bit is set in `ready`. The indexes follow
+    /// the bit order of `B`. The type has to fit, as for [`new`](PriorityQueue::new).
+    ///
+    /// In `PriorityQueue::<u64>::with_ready(0b1011)` the tasks 0, 1 and 3 are ready.
+    pub fn with_ready(ready: B) -> PriorityQueue<B>
+        requires { IsTrue B.indexable }
+        ensures { result.ready ≡ ready }
+    {
+        PriorityQueue { ready }
+    }
+
+    /// Lends the set of the ready tasks. The indexes follow the bit order of `B`.
+    pub fn ready(&self) -> &B
+        ensures { result.now ≡ self.now.ready }
+    {
+        &self.ready
+    }
+
+    /// Returns how many tasks are ready. The call goes word by word, not bit by bit.
+    pub fn len(&self) -> u32
+        ensures { result ≡ size (set_in B.Shape B.Order.Endian self.now.ready) }
+    {
+        self.ready.count_ones()
+    }
+
+    /// Returns whether no task is ready; with capacity 0 this is always so. The call reads words,
+    /// at most eight at a time, until one of them has the bit of a ready task.
+    pub fn is_empty(&self) -> bool
+        ensures { IsTrue result
+            ↔ NoneIn (set_in B.Shape B.Order.Endian self.now.ready) 0 B.type_capacity }
+    {
+        self.ready.all_zeros()
     }
 
     /// Returns how many tasks there are.
@@ -68,6 +102,18 @@ impl<B: BitsOwned> PriorityQueue<B> {
         Ok(())
     }
 
+    /// Returns the most urgent ready task, which [`next`](PriorityQueue::next) would take. If no
+    /// task is ready, it returns `None`; with capacity 0 this is always so. The call reads the words
+    /// up to the one with the bit of the task.
+    pub fn peek(&self) -> Option<u32>
+        ensures task { result ≡ most_urgent (set_in B.Shape B.Order.Endian self.now.ready) }
+        ensures urgent { let tasks = set_in B.Shape B.Order.Endian self.now.ready in
+            MatchOption result (NoneIn tasks 0 B.type_capacity) (IsMostUrgent tasks) }
+        ensures below { IfSome result (λ task. task < B.type_capacity) }
+    {
+        self.ready.first_one_in::<B::Order>(0, B::bits())
+    }
+
     /// Takes the most urgent ready task out of the queue, and returns it to be run. If no task is
     /// ready, the call changes nothing and returns `None`; with capacity 0 this is always so. The
     /// call reads the words up to the one with the bit of the task.
@@ -86,7 +132,7 @@ impl<B: BitsOwned> PriorityQueue<B> {
         ensures ready { set_in B.Shape B.Order.Endian self.new.ready
             ≡ state_after (set_in B.Shape B.Order.Endian self.old.ready) Event.Next }
     {
-        let task = self.ready.first_one_in::<B::Order>(0, B::bits())?;
+        let task = self.peek()?;
         self.ready.clear_bit(task);
         Some(task)
     }

@@ -2,7 +2,7 @@
 
 ghost use Rattle.std.specs.Prelude.{◌≡◌, ◌<◌, ◌≤◌, ◌↔◌, length, true, false, IfSome, IsOk};
 ghost use Rattle.std.specs.Prelude.{IsTrue, MatchOption, Some, ℕ, ◌≢◌};
-ghost use Rattle.bittle.specs.PlainSet.{empty_set};
+ghost use Rattle.bittle.specs.PlainSet.{empty_set, size};
 ghost use Rattle.bittle.specs.Searches.{NoneIn};
 ghost use Rattle.bittle.specs.Shapes.{Fits};
 ghost use Rattle.bittle.specs.Values.{set_in};
@@ -37,10 +37,43 @@ impl<B: BitsOwned> RoundRobin<B> {
         ensures ready { set_in B.Shape B.Order.Endian result.ready ≡ empty_set B.type_capacity }
         ensures turn { result.turn ≡ 0 }
     {
-        RoundRobin {
-            ready: B::zeros(),
-            turn: 0,
-        }
+        RoundRobin::with_ready(B::zeros())
+    }
+
+    /// Returns a queue in which a task is ready if its bit is set in `ready`, with the turn at task
+    /// 0. The indexes follow the bit order of `B`. The type has to fit, as for
+    /// [`new`](RoundRobin::new).
+    ///
+    /// In `RoundRobin::<u64>::with_ready(0b1011)` the tasks 0, 1 and 3 are ready.
+    pub fn with_ready(ready: B) -> RoundRobin<B>
+        requires { IsTrue B.indexable }
+        ensures ready { result.ready ≡ ready }
+        ensures turn { result.turn ≡ 0 }
+    {
+        RoundRobin { ready, turn: 0 }
+    }
+
+    /// Lends the set of the ready tasks. The indexes follow the bit order of `B`.
+    pub fn ready(&self) -> &B
+        ensures { result.now ≡ self.now.ready }
+    {
+        &self.ready
+    }
+
+    /// Returns how many tasks are ready. The call goes word by word, not bit by bit.
+    pub fn len(&self) -> u32
+        ensures { result ≡ size (set_in B.Shape B.Order.Endian self.now.ready) }
+    {
+        self.ready.count_ones()
+    }
+
+    /// Returns whether no task is ready; with capacity 0 this is always so. The call reads words,
+    /// at most eight at a time, until one of them has the bit of a ready task.
+    pub fn is_empty(&self) -> bool
+        ensures { IsTrue result
+            ↔ NoneIn (set_in B.Shape B.Order.Endian self.now.ready) 0 B.type_capacity }
+    {
+        self.ready.all_zeros()
     }
 
     /// Returns how many tasks there are.
@@ -78,10 +111,17 @@ impl<B: BitsOwned> RoundRobin<B> {
         Ok(())
     }
 
-    // Finds the next ready task: the first from the turn on, or else the first before it.
-    fn in_turn(&self) -> Option<u32>
-        ensures { result ≡ next_in_turn
+    /// Returns the ready task that is next in turn, which [`next`](RoundRobin::next) would take. If
+    /// no task is ready, it returns `None`; with capacity 0 this is always so. The call reads the
+    /// words from the turn up to the one with the bit of the task. If no task is ready there, it
+    /// reads the words before the turn.
+    pub fn peek(&self) -> Option<u32>
+        ensures task { result ≡ next_in_turn
             (round_at (set_in B.Shape B.Order.Endian self.now.ready) self.now.turn) }
+        ensures next { let round = round_at
+            (set_in B.Shape B.Order.Endian self.now.ready) self.now.turn in
+            MatchOption result (NoneIn round.ready 0 B.type_capacity) (IsNextInTurn round) }
+        ensures below { IfSome result (λ task. task < B.type_capacity) }
     {
         match self.ready.first_one_in::<B::Order>(self.turn, B::bits()) {
             Some(task) => Some(task),
@@ -111,7 +151,7 @@ impl<B: BitsOwned> RoundRobin<B> {
             ≡ round_after (round_at (set_in B.Shape B.Order.Endian self.old.ready) self.old.turn)
             Event.Next }
     {
-        let task = self.in_turn()?;
+        let task = self.peek()?;
         self.ready.clear_bit(task);
         self.turn = task + 1;
         Some(task)

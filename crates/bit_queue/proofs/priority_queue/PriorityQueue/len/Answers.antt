@@ -1,0 +1,4 @@
+use Rattle.bit_queue.proofs.priority_queue.PriorityQueue.len.Goals as goal
+
+pub returns : goal.returns
+returns g c = c.count_ones.ensures.in_each_order g.B.Order.Endian.mirrored
