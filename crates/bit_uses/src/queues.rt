@@ -4,7 +4,7 @@ ghost use Rattle.std.specs.Prelude.{◌≡◌, ◌≢◌, ◌<◌, length, IfSom
 ghost use Rattle.bit_queue.specs.Queue.{event_answers, most_urgent};
 ghost use Rattle.bit_queue.specs.RoundRobin.{answers_in_turn, round_at};
 ghost use Rattle.bittle.specs.BitPatterns.{bit_set};
-ghost use Rattle.bittle.specs.PlainSet.{empty_set};
+ghost use Rattle.bittle.specs.PlainSet.{empty_set, size};
 
 use bit_queue::{Answer, Event, NoTask, PriorityQueue, RoundRobin};
 use bittle::BitsOwned;
@@ -28,6 +28,56 @@ pub fn wake_and_ask<B: BitsOwned>(queue: &mut PriorityQueue<B>, task: u32) -> bo
         Ok(()) => queue.is_ready(task),
         Err(NoTask) => task >= queue.tasks(),
     }
+}
+
+/// Wakes `task`, and returns whether `other` is ready exactly if it was before. The result is
+/// always `true`, also if both are the same task.
+pub fn wake_and_ask_another<B: BitsOwned>(
+    queue: &mut PriorityQueue<B>,
+    task: u32,
+    other: u32,
+) -> bool
+    ensures { result ≡ true }
+{
+    let before = queue.is_ready(other);
+    let _done = queue.wake(task);
+    other == task || queue.is_ready(other) == before
+}
+
+/// Lets a task run in turn, and returns whether `other` is ready exactly if it was before. The
+/// result is always `true`, also if `other` is the task that ran.
+pub fn run_and_ask_another<B: BitsOwned>(turns: &mut RoundRobin<B>, other: u32) -> bool
+    ensures { result ≡ true }
+{
+    let before = turns.is_ready(other);
+    match turns.next() {
+        Some(task) => other == task || turns.is_ready(other) == before,
+        None => turns.is_ready(other) == before,
+    }
+}
+
+/// Returns whether the task that the queue shows is the one that runs next. The result is always
+/// `true`, also if no task is ready.
+pub fn peek_and_run<B: BitsOwned>(queue: &mut PriorityQueue<B>) -> bool
+    ensures { result ≡ true }
+{
+    let shown = queue.peek();
+    queue.next() == shown
+}
+
+/// Lets a task run, unless none is ready, and returns whether that succeeds. The result is always
+/// `true`.
+pub fn run_unless_empty<B: BitsOwned>(turns: &mut RoundRobin<B>) -> bool
+    ensures { result ≡ true }
+{
+    turns.is_empty() || turns.next().is_some()
+}
+
+/// Returns how many tasks are ready in a queue that begins with the tasks of `mask`.
+pub fn begin_with(mask: u64) -> u32
+    ensures { result ≡ size (bit_set 64 mask) }
+{
+    PriorityQueue::<u64>::with_ready(mask).len()
 }
 
 /// Lets a task run, wakes it again, and returns whether the queue accepts it. The result is always
@@ -60,6 +110,18 @@ pub fn run_for(queue: &mut PriorityQueue<u8>, work: &mut [u32; 8]) -> Option<u32
     let task = queue.next()?;
     work[task as usize] = work[task as usize].saturating_sub(1);
     Some(task)
+}
+
+/// Returns the entry of a table for a ready task, or `None` if the task is not ready. The check
+/// proves that a ready task is an index of the table.
+pub fn entry_if_ready(queue: &PriorityQueue<u8>, entries: &[u32; 8], task: u32) -> Option<u32>
+    ensures { IfSome result (λ _. task < 8) }
+{
+    if queue.is_ready(task) {
+        Some(entries[task as usize])
+    } else {
+        None
+    }
 }
 
 /// Serves events for 64 tasks by urgency. No task is ready at first.

@@ -35,6 +35,68 @@ pub fn inherit_and_ask<B: BitsOwned, const N: usize>(
     }
 }
 
+/// Grants a permission to a role, and returns whether another role was granted `other_permission`
+/// exactly if it was before. The result is always `true`, also if both roles are the same.
+pub fn grant_and_ask_another<B: BitsOwned, const N: usize>(
+    roles: &mut Roles<B, N>,
+    role: u32,
+    permission: u32,
+    other: u32,
+    other_permission: u32,
+) -> bool
+    ensures { result ≡ true }
+{
+    let before = roles.is_granted(other, other_permission);
+    let _done = roles.grant(role, permission);
+    other == role || roles.is_granted(other, other_permission) == before
+}
+
+/// Grants a permission to a role, and returns whether `other` has the parent that it had before.
+/// The result is always `true`.
+pub fn grant_and_ask_parent<B: BitsOwned, const N: usize>(
+    roles: &mut Roles<B, N>,
+    role: u32,
+    permission: u32,
+    other: u32,
+) -> bool
+    ensures { result ≡ true }
+{
+    let before = roles.parent(other);
+    let _done = roles.grant(role, permission);
+    roles.parent(other) == before
+}
+
+/// Gives a role a parent, and returns whether `other` has the parent that it had before. The result
+/// is always `true`, also if both roles are the same.
+pub fn inherit_and_ask_another<B: BitsOwned, const N: usize>(
+    roles: &mut Roles<B, N>,
+    role: u32,
+    parent: u32,
+    other: u32,
+) -> bool
+    ensures { result ≡ true }
+{
+    let before = roles.parent(other);
+    let _done = roles.inherit(role, parent);
+    other == role || roles.parent(other) == before
+}
+
+/// Gives a role a parent, and returns whether `other` was granted a permission exactly if it was
+/// before. The result is always `true`.
+pub fn inherit_and_ask_grant<B: BitsOwned, const N: usize>(
+    roles: &mut Roles<B, N>,
+    role: u32,
+    parent: u32,
+    other: u32,
+    permission: u32,
+) -> bool
+    ensures { result ≡ true }
+{
+    let before = roles.is_granted(other, permission);
+    let _done = roles.inherit(role, parent);
+    roles.is_granted(other, permission) == before
+}
+
 /// Asks that a role inherit from itself. Returns `true`, since the request is refused.
 pub fn inherit_from_itself<B: BitsOwned, const N: usize>(roles: &mut Roles<B, N>, role: u32) -> bool
     ensures { result ≡ true }
@@ -48,8 +110,21 @@ pub fn parent_in_table(roles: &Roles<u64, 8>, names: &[u32; 8], role: u32) -> Op
     ensures { IfSome result (λ _. role < 8) }
 {
     let parent = roles.parent(role)?;
-    if role < 8 {
-        Some(names[parent as usize])
+    Some(names[parent as usize])
+}
+
+/// Returns the entry of a table for a role that allows a permission, or `None` if the role does not
+/// allow it. The check proves that such a role is an index of the table.
+pub fn entry_if_allowed(
+    roles: &Roles<u64, 8>,
+    entries: &[u32; 8],
+    role: u32,
+    permission: u32,
+) -> Option<u32>
+    ensures { IfSome result (λ _. permission < 64) }
+{
+    if roles.allows(role, permission) {
+        Some(entries[role as usize])
     } else {
         None
     }
