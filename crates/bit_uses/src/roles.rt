@@ -51,6 +51,21 @@ pub fn grant_and_ask_another<B: BitsOwned, const N: usize>(
     other == role || roles.is_granted(other, other_permission) == before
 }
 
+/// Grants a permission to a role, and returns whether the role was granted `other` exactly if it
+/// was before. The result is always `true`, also if both permissions are the same.
+pub fn grant_and_ask_another_permission<B: BitsOwned, const N: usize>(
+    roles: &mut Roles<B, N>,
+    role: u32,
+    permission: u32,
+    other: u32,
+) -> bool
+    ensures { result ≡ true }
+{
+    let before = roles.is_granted(role, other);
+    let _done = roles.grant(role, permission);
+    other == permission || roles.is_granted(role, other) == before
+}
+
 /// Grants a permission to a role, and returns whether `other` has the parent that it had before.
 /// The result is always `true`.
 pub fn grant_and_ask_parent<B: BitsOwned, const N: usize>(
