@@ -21,3 +21,5 @@ mod slot_histories;
 mod slot_keys;
 #[cfg(test)]
 mod slot_rows;
+#[cfg(test)]
+mod texts;

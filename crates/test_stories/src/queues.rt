@@ -94,9 +94,11 @@ fn queues_without_tasks(rt: HostRuntime) {
     let mut queue = PriorityQueue::<[u8; 0]>::new();
     same!(rt; (queue.wake(0), queue.next(), queue.tasks()), (Err(NoTask), None, 0));
     holds!(rt; !queue.is_ready(0));
+    same!(rt; shown_urgent(&queue), (None, 0, true));
     let mut turns = RoundRobin::<[u8; 0]>::new();
     same!(rt; (turns.wake(0), turns.next(), turns.tasks()), (Err(NoTask), None, 0));
     holds!(rt; !turns.is_ready(0));
+    same!(rt; shown_in_turn(&turns), (None, 0, true));
 }
 
 #[test]
@@ -123,6 +125,57 @@ fn a_task_that_is_woken_at_each_step_lets_the_others_run(rt: HostRuntime) {
         same!(rt; turns.next(), Some(expected));
         same!(rt; turns.wake(expected), Ok(()));
     }
+}
+
+// Returns what a queue by urgency shows: the task that runs next, how many are ready, and whether
+// none is.
+fn shown_urgent<B: BitsOwned>(queue: &PriorityQueue<B>) -> (Option<u32>, u32, bool) {
+    (queue.peek(), queue.len(), queue.is_empty())
+}
+
+// Returns the same of a queue in turns.
+fn shown_in_turn<B: BitsOwned>(turns: &RoundRobin<B>) -> (Option<u32>, u32, bool) {
+    (turns.peek(), turns.len(), turns.is_empty())
+}
+
+#[test]
+fn a_queue_by_urgency_that_begins_with_ready_tasks(rt: HostRuntime) {
+    // Bits 1, 3 and 6.
+    let mut queue = PriorityQueue::<u8>::with_ready(0b0100_1010);
+    same!(rt; shown_urgent(&queue), (Some(1), 3, false));
+    same!(rt; (queue.next(), queue.next()), (Some(1), Some(3)));
+    same!(rt; shown_urgent(&queue), (Some(6), 1, false));
+    same!(rt; queue.wake(0), Ok(()));
+    same!(rt; (*queue.ready(), queue.peek()), (0b0100_0001, Some(0)));
+    same!(rt; (queue.next(), queue.next()), (Some(0), Some(6)));
+    same!(rt; shown_urgent(&queue), (None, 0, true));
+    same!(rt; queue.next(), None);
+}
+
+#[test]
+fn a_queue_in_turns_that_begins_with_ready_tasks(rt: HostRuntime) {
+    // Bits 1, 3 and 6.
+    let mut turns = RoundRobin::<u8>::with_ready(0b0100_1010);
+    same!(rt; shown_in_turn(&turns), (Some(1), 3, false));
+    same!(rt; (turns.next(), turns.next()), (Some(1), Some(3)));
+    same!(rt; turns.wake(0), Ok(()));
+    // Task 6 comes before task 0, because the turn is at task 4.
+    same!(rt; shown_in_turn(&turns), (Some(6), 2, false));
+    same!(rt; (*turns.ready(), turns.next()), (0b0100_0001, Some(6)));
+    same!(rt; shown_in_turn(&turns), (Some(0), 1, false));
+    same!(rt; (turns.next(), turns.next()), (Some(0), None));
+    same!(rt; shown_in_turn(&turns), (None, 0, true));
+}
+
+#[test]
+fn ready_tasks_in_the_other_order(rt: HostRuntime) {
+    // From the most significant bit down, the set bits have the numbers 1, 4 and 6.
+    let ready = Set::<u8, LittleEndian>::new_in(0b0100_1010);
+    let mut queue = PriorityQueue::<Set<u8, LittleEndian>>::with_ready(ready);
+    same!(rt; (queue.peek(), queue.len()), (Some(1), 3));
+    same!(rt; (queue.next(), queue.next(), queue.next()), (Some(1), Some(4), Some(6)));
+    let turns = RoundRobin::<Set<u8, LittleEndian>>::with_ready(ready);
+    same!(rt; (turns.peek(), turns.len(), turns.is_empty()), (Some(1), 3, false));
 }
 
 // Applies an event to an array of flags, and returns the expected answer. For `Next`, the search

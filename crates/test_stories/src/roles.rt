@@ -90,6 +90,24 @@ fn a_parent_in_place_of_another(rt: HostRuntime) -> Result<(), Fail> {
     Ok(())
 }
 
+#[test]
+fn a_list_gives_the_last_parent_that_is_not_refused(rt: HostRuntime) {
+    let mut roles = Roles::<u8, 5>::new();
+    same!(rt; (roles.inherit(1, 0), roles.inherit(4, 3)), (Ok(()), Ok(())));
+    let requests = [
+        Request::Inherit(4, 1),
+        Request::Inherit(3, 1),
+        Request::Inherit(4, 2),
+        Request::Inherit(4, 4),
+        Request::Grant(4, 0),
+    ];
+    let mut answers = [Answer::Done; 5];
+    roles.serve(&requests, &mut answers);
+    same!(rt; (answers[2], answers[3]), (Answer::Done, Answer::Refused));
+    same!(rt; (roles.parent(4), roles.parent(3)), (Some(2), Some(1)));
+    same!(rt; (roles.parent(1), roles.parent(2), roles.parent(5)), (Some(0), None, None));
+}
+
 // Applies a request to plain tables of six roles and 32 permissions. Returns the expected answer.
 fn ask_tables(
     request: Request,
