@@ -74,19 +74,19 @@ after_one w event events entity k removed = record {
 }
 
 -- a living entity is spawned again only after its removal
-removed_first : (w : World) (events : List Event) (entity : ℕ) → w.alive.has entity ≡ true →
-    (j : ℕ) → slice_get (event_answers w events) j ≡ Some (Spawned entity) →
+pub removed_first : (w : World) (events : List Event) (entity j : ℕ) → w.alive.has entity ≡ true →
+    slice_get (event_answers w events) j ≡ Some (Spawned entity) →
     (k : ℕ) × (k < j) × IsRemoved w events k entity
 unfolding event_answers
-removed_first w [] entity lives j e = absurd (cc)
-removed_first w (event ∷ events) entity lives zero e =
+removed_first w [] entity j lives e = absurd (cc)
+removed_first w (event ∷ events) entity zero lives e =
     let is : answer_to w event ≡ Spawned entity = cc in
     absurd (true≢false (sym lives
     ∙ (outside w.alive entity (spawned_is w event entity is).0.2).1))
-removed_first w (event ∷ events) entity lives (suc j) e =
+removed_first w (event ∷ events) entity (suc j) lives e =
     elim (lives_on w event entity lives) [
       | inl on ↦
-          let later = removed_first (world_after w event) events entity on j e in
+          let later = removed_first (world_after w event) events entity j on e in
           (suc later.0, omega (arith, later.1), after_one w event events entity later.0 later.2)
       | inr removed ↦ (
         zero,
@@ -109,7 +109,7 @@ removed_between w (event ∷ events) entity zero (suc j) h a b =
     let is : answer_to w event ≡ Spawned entity = cc in
     let lives = number_now w.alive entity true _
     (ap (λ t. t.alive) (spawned_is w event entity is).1) in
-    let later = removed_first (world_after w event) events entity lives j b in (
+    let later = removed_first (world_after w event) events entity j lives b in (
       suc later.0,
       omega arith,
       omega (arith, later.1),

@@ -66,6 +66,14 @@ pub record IsRemoved (w : World) (events : List Event) (k entity : ℕ) : Type 0
   pub asked : slice_get events k ≡ Some (Remove entity)
   pub answered : slice_get (event_answers w events) k ≡ Some Done
 
+-- an entity that is alive before a list of events is spawned in it only after a removal
+abbrev pub LivingAreRemovedFirst : Type 0
+LivingAreRemovedFirst =
+    (w : World) (events : List Event) (entity j : ℕ)
+    → w.alive.has entity ≡ true
+    → slice_get (event_answers w events) j ≡ Some (Spawned entity)
+    → (k : ℕ) × (k < j) × IsRemoved w events k entity
+
 -- a number that is spawned again was removed since it was last spawned
 abbrev pub SpawnedAreRemovedBetween : Type 0
 SpawnedAreRemovedBetween =

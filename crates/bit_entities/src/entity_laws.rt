@@ -6,6 +6,7 @@
 ghost use Rattle.bit_entities.specs.EntityLaws.{WorldsStayWorlds, DeadHaveNothing, SpawnedAreNew};
 ghost use Rattle.bit_entities.specs.EntityLaws.{FullExactlyIfAllAreAlive, RefusedChangesNothing};
 ghost use Rattle.bit_entities.specs.EntityLaws.{AnswersAreOfTheirWorlds, SpawnedAreRemovedBetween};
+ghost use Rattle.bit_entities.specs.EntityLaws.{LivingAreRemovedFirst};
 ghost use Rattle.bit_entities.specs.EntityLaws.{ComponentsAreThoseKept, QueriesVisitEachOnce};
 
 /// States that if no dead entity has a component, this stays so after any list of events.
@@ -38,6 +39,12 @@ pub fn refused_changes_nothing()
 /// events leave. So what holds of one answer in any world holds of each answer of the list.
 pub fn answers_are_of_their_worlds()
     ensures { AnswersAreOfTheirWorlds }
+{}
+
+/// States that a list of events spawns an entity that was alive before the list only after the list
+/// removed this entity: a `Remove` was answered `Done`.
+pub fn living_are_removed_first()
+    ensures { LivingAreRemovedFirst }
 {}
 
 /// States that a number which is spawned again was removed since it was last spawned.
