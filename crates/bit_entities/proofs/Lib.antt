@@ -4,3 +4,4 @@ pub mod LeastDead
 pub mod Masks
 pub mod Matches
 pub mod Worlds
+pub mod Others

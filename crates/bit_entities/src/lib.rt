@@ -20,12 +20,13 @@
 //! world.matching(&[PLACE, SPEED]);            // 0b10: entity 1
 //! world.remove(1);                            // true
 //! world.spawn();                              // Some(1), which has no component
+//! world.len();                                // 2: entities 0 and 1
 //! ```
 #![tactic(auto)]
 
-ghost use Rattle.std.specs.Prelude.{◌≡◌, ◌<◌, ℕ, length, true, false, IfSome, IsTrue};
-ghost use Rattle.std.specs.Prelude.{if◌then◌else◌};
-ghost use Rattle.bittle.specs.PlainSet.{complement};
+ghost use Rattle.std.specs.Prelude.{◌≡◌, ◌≢◌, ◌<◌, ◌≤◌, ℕ, length, true, false, IfSome, IsTrue};
+ghost use Rattle.std.specs.Prelude.{Some, if◌then◌else◌};
+ghost use Rattle.bittle.specs.PlainSet.{complement, size};
 ghost use Rattle.bittle.specs.Searches.{IsFirstIn};
 ghost use Rattle.bittle.specs.Shapes.{Fits};
 ghost use Rattle.bittle.specs.Values.{set_in};
@@ -107,17 +108,43 @@ impl<B: BitsOwned, const N: usize> World<B, N> {
 
     /// Returns whether an entity is alive. A number past the capacity is not alive.
     pub fn is_alive(&self, entity: u32) -> bool
-        ensures { let world = world_of N (set_in B.Shape B.Order.Endian) self.now.alive
+        ensures value { let world = world_of N (set_in B.Shape B.Order.Endian) self.now.alive
             self.now.components in result ≡ world.alive.has entity }
+        ensures below { IsTrue result → entity < B.type_capacity }
     {
         entity < B::bits() && self.alive.test_bit(entity)
+    }
+
+    /// Returns the set of the living entities. Iterate over it by `iter_ones`. The set is lent, so
+    /// the world cannot change meanwhile; `matching(&[])` returns a copy.
+    pub fn alive(&self) -> &B
+        ensures { result.now ≡ self.now.alive }
+    {
+        &self.alive
+    }
+
+    /// Returns how many entities are alive. It counts the set bits of each word of
+    /// [`alive`](World::alive).
+    pub fn len(&self) -> u32
+        ensures value { result ≡ size (set_in B.Shape B.Order.Endian self.now.alive) }
+        ensures at_most { result ≤ B.type_capacity }
+    {
+        self.alive.count_ones()
+    }
+
+    /// Returns how many entities can be alive at once: the capacity of `B`.
+    pub fn capacity(&self) -> u32
+        ensures { result ≡ B.type_capacity }
+    {
+        B::bits()
     }
 
     /// Returns whether an entity has a component: `false` if the entity is not alive, or if there
     /// is no such component.
     pub fn has(&self, entity: u32, component: u32) -> bool
-        ensures { let world = world_of N (set_in B.Shape B.Order.Endian) self.now.alive
+        ensures value { let world = world_of N (set_in B.Shape B.Order.Endian) self.now.alive
             self.now.components in result ≡ world.has entity component }
+        ensures below { IsTrue result → entity < B.type_capacity }
     {
         match self.components.get(component as usize) {
             Some(mask) => entity < B::bits() && mask.test_bit(entity),
@@ -141,6 +168,10 @@ impl<B: BitsOwned, const N: usize> World<B, N> {
         ensures bare { let after = world_of N (set_in B.Shape B.Order.Endian) self.new.alive
             self.new.components in
             IfSome result (λ entity. (component : ℕ) → after.has entity component ≡ false) }
+        ensures others { (other : ℕ) → result ≢ Some other
+            → (set_in B.Shape B.Order.Endian self.new.alive).has other
+            ≡ (set_in B.Shape B.Order.Endian self.old.alive).has other }
+        ensures components { self.new.components ≡ self.old.components }
         ensures world { world_of N (set_in B.Shape B.Order.Endian) self.new.alive
             self.new.components ≡ world_after (world_of N (set_in B.Shape B.Order.Endian)
             self.old.alive self.old.components) Event.Spawn }
@@ -157,6 +188,15 @@ impl<B: BitsOwned, const N: usize> World<B, N> {
             self.old.components in result ≡ before.alive.has entity }
         ensures gone { let after = world_of N (set_in B.Shape B.Order.Endian) self.new.alive
             self.new.components in after.alive.has entity ≡ false }
+        ensures others { (other : ℕ) → other ≢ entity
+            → (set_in B.Shape B.Order.Endian self.new.alive).has other
+            ≡ (set_in B.Shape B.Order.Endian self.old.alive).has other }
+        ensures components { let before = world_of N (set_in B.Shape B.Order.Endian) self.old.alive
+            self.old.components in
+            let after = world_of N (set_in B.Shape B.Order.Endian) self.new.alive
+            self.new.components in
+            (other component : ℕ) → other ≢ entity
+            → after.has other component ≡ before.has other component }
         ensures world { world_of N (set_in B.Shape B.Order.Endian) self.new.alive
             self.new.components ≡ world_after (world_of N (set_in B.Shape B.Order.Endian)
             self.old.alive self.old.components) (Event.Remove entity) }
@@ -187,6 +227,19 @@ impl<B: BitsOwned, const N: usize> World<B, N> {
             self.old.alive self.old.components) entity component }
         ensures has { let after = world_of N (set_in B.Shape B.Order.Endian) self.new.alive
             self.new.components in result ≡ true → after.has entity component ≡ true }
+        ensures living { self.new.alive ≡ self.old.alive }
+        ensures others { let before = world_of N (set_in B.Shape B.Order.Endian) self.old.alive
+            self.old.components in
+            let after = world_of N (set_in B.Shape B.Order.Endian) self.new.alive
+            self.new.components in
+            (other another : ℕ) → other ≢ entity
+            → after.has other another ≡ before.has other another }
+        ensures components { let before = world_of N (set_in B.Shape B.Order.Endian) self.old.alive
+            self.old.components in
+            let after = world_of N (set_in B.Shape B.Order.Endian) self.new.alive
+            self.new.components in
+            (other another : ℕ) → another ≢ component
+            → after.has other another ≡ before.has other another }
         ensures world { world_of N (set_in B.Shape B.Order.Endian) self.new.alive
             self.new.components ≡ world_after (world_of N (set_in B.Shape B.Order.Endian)
             self.old.alive self.old.components) (Event.Attach entity component) }
@@ -206,6 +259,19 @@ impl<B: BitsOwned, const N: usize> World<B, N> {
             self.old.alive self.old.components) entity component }
         ensures lacks { let after = world_of N (set_in B.Shape B.Order.Endian) self.new.alive
             self.new.components in after.has entity component ≡ false }
+        ensures living { self.new.alive ≡ self.old.alive }
+        ensures others { let before = world_of N (set_in B.Shape B.Order.Endian) self.old.alive
+            self.old.components in
+            let after = world_of N (set_in B.Shape B.Order.Endian) self.new.alive
+            self.new.components in
+            (other another : ℕ) → other ≢ entity
+            → after.has other another ≡ before.has other another }
+        ensures components { let before = world_of N (set_in B.Shape B.Order.Endian) self.old.alive
+            self.old.components in
+            let after = world_of N (set_in B.Shape B.Order.Endian) self.new.alive
+            self.new.components in
+            (other another : ℕ) → another ≢ component
+            → after.has other another ≡ before.has other another }
         ensures world { world_of N (set_in B.Shape B.Order.Endian) self.new.alive
             self.new.components ≡ world_after (world_of N (set_in B.Shape B.Order.Endian)
             self.old.alive self.old.components) (Event.Detach entity component) }

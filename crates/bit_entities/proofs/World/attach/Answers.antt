@@ -3,6 +3,7 @@ use Rattle.std.proofs.lemmas.Option.{slice_get-get_or}
 use Rattle.bittle.specs.Values.{set_in}
 use Rattle.bit_entities.specs.Entities.{World, IsWorld, world_of, may_have, with_component}
 use Rattle.bit_entities.proofs.Masks.{put_in, row_changed}
+use Rattle.bit_entities.proofs.Others.{same_entity, same_component}
 use Rattle.bit_entities.proofs.Worlds.{may_parts, having_is_world, has_now}
 use Rattle.bit_entities.proofs.World.attach.Given.{Over}
 use Rattle.bit_entities.proofs.World.attach.Goals.{After-set_bit}
@@ -50,3 +51,17 @@ pub returns-clause-has : goal.returns-clause-has
 returns-clause-has g c done =
     has_now _ c.args.entity c.args.component true _
     (attached g (goal.at.returns-clause-has g c).After-set_bit)
+
+pub returns-clause-others : goal.returns-clause-others
+returns-clause-others g c =
+    let w : World = world_of g.row.N (set_in g.B.Shape g.B.Order.Endian) c.args.self.now.alive
+    c.args.self.now.components in
+    same_entity w _ c.args.entity c.args.component true
+    (attached g (goal.at.returns-clause-others g c).After-set_bit)
+
+pub returns-clause-components : goal.returns-clause-components
+returns-clause-components g c =
+    let w : World = world_of g.row.N (set_in g.B.Shape g.B.Order.Endian) c.args.self.now.alive
+    c.args.self.now.components in
+    same_component w _ c.args.entity c.args.component true
+    (attached g (goal.at.returns-clause-components g c).After-set_bit)

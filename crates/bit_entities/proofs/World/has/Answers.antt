@@ -5,8 +5,8 @@ use Rattle.bittle.proofs.CallerSets.{contains_within}
 use Rattle.bit_entities.specs.Entities.{is_in}
 use Rattle.bit_entities.proofs.World.has.Goals as goal
 
-pub returns-then-entity-bits : goal.returns-then-entity-bits
-returns-then-entity-bits g c =
+pub returns-then-entity-bits-clause-value : goal.returns-then-entity-bits-clause-value
+returns-then-entity-bits-clause-value g c =
     let masks = c.args.self.now.components in
     let found = c.in-Some.ensures.lookup in
     let capacity = g.met.B.FixedCapacity.one_capacity c.in-Some.mask.now in
@@ -17,6 +17,6 @@ returns-then-entity-bits g c =
     (sym (slice_get_read masks (length masks) c.args.component c.in-Some.mask.now refl found.3.0
     found.1))
 
-pub returns-in-None : goal.returns-in-None
-returns-in-None g c = ap (λ o. is_in (set_in g.B.Shape g.B.Order.Endian) o c.args.entity)
+pub returns-in-None-clause-value : goal.returns-in-None-clause-value
+returns-in-None-clause-value g c = ap (λ o. is_in (set_in g.B.Shape g.B.Order.Endian) o c.args.entity)
     (sym (slice_get_past c.args.self.now.components c.args.component c.in-None.ensures.lookup.3))

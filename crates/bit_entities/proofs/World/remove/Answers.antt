@@ -3,6 +3,7 @@ use Rattle.std.proofs.lemmas.Option.{slice_get-get_or}
 use Rattle.bittle.specs.Values.{set_in}
 use Rattle.bit_entities.specs.Entities.{World, IsWorld, world_of, with_component, without_first, without_entity}
 use Rattle.bit_entities.proofs.Masks.{taken_out, number_now, row_changed, one_more_lost}
+use Rattle.bit_entities.proofs.Others.{other_lives, other_keeps}
 use Rattle.bit_entities.proofs.Worlds.{losing_is_world, going_is_world, all_lost}
 use Rattle.bit_entities.proofs.World.remove.Given.{Over}
 use Rattle.bit_entities.proofs.World.remove.Goals.{After-clear_bit, After-clear_bit-2}
@@ -24,7 +25,7 @@ lost_next g c =
     let capacity = g.met.B.FixedCapacity.one_capacity mask in
     let all = g.met.B.FixedCapacity.one_capacity c.args.self.now.alive in
     let inside : k < length now.components = omega arith in
-    let lives : w.alive.has entity ≡ true = sym c.is_alive.ensures ∙ cc in
+    let lives : w.alive.has entity ≡ true = sym c.is_alive.ensures.value ∙ cc in
     let below = c.args.self.now.sound.living_are_below entity lives in
     row_changed g.row.N (set_in g.B.Shape g.B.Order.Endian) now.alive now.components entity k false
     mask c.clear_bit.new.self inside
@@ -58,7 +59,7 @@ gone g c =
     let t : World = world_of g.row.N (set_in g.B.Shape g.B.Order.Endian) now.alive now.components in
     let capacity = g.met.B.FixedCapacity.one_capacity now.alive in
     let all = g.met.B.FixedCapacity.one_capacity c.args.self.now.alive in
-    let lives : w.alive.has entity ≡ true = sym c.is_alive.ensures ∙ cc in
+    let lives : w.alive.has entity ≡ true = sym c.is_alive.ensures.value ∙ cc in
     let below = c.args.self.now.sound.living_are_below entity lives in
     let end : c.loop-component.component ≡ g.row.N = omega arith in
     all_lost w entity c.args.self.now.sound t
@@ -69,7 +70,7 @@ pub returns-clause-world : goal.returns-clause-world
 returns-clause-world g c =
     let w : World = world_of g.row.N (set_in g.B.Shape g.B.Order.Endian) c.args.self.now.alive
     c.args.self.now.components in
-    let lives : w.alive.has c.args.entity ≡ true = sym c.is_alive.ensures ∙ cc in
+    let lives : w.alive.has c.args.entity ≡ true = sym c.is_alive.ensures.value ∙ cc in
     gone g (goal.at.returns-clause-world g c).After-clear_bit-2
     ∙ ap (λ b. cond b (without_entity w c.args.entity) w) (sym lives)
 
@@ -86,3 +87,15 @@ returns-clause-gone g c =
     c.args.self.now.components in
     number_now w.alive c.args.entity false _
     (ap (λ t. t.alive) (gone g (goal.at.returns-clause-gone g c).After-clear_bit-2))
+
+pub returns-clause-others : goal.returns-clause-others
+returns-clause-others g c =
+    let w : World = world_of g.row.N (set_in g.B.Shape g.B.Order.Endian) c.args.self.now.alive
+    c.args.self.now.components in
+    other_lives w _ c.args.entity (gone g (goal.at.returns-clause-others g c).After-clear_bit-2)
+
+pub returns-clause-components : goal.returns-clause-components
+returns-clause-components g c =
+    let w : World = world_of g.row.N (set_in g.B.Shape g.B.Order.Endian) c.args.self.now.alive
+    c.args.self.now.components in
+    other_keeps w _ c.args.entity (gone g (goal.at.returns-clause-components g c).After-clear_bit-2)

@@ -4,6 +4,7 @@ use Rattle.bittle.specs.Values.{set_in}
 use Rattle.bit_entities.specs.Entities.{World, IsWorld, world_of, with_spawned}
 use Rattle.bit_entities.proofs.LeastDead.{first_listed, outside}
 use Rattle.bit_entities.proofs.Masks.{put_in, number_now}
+use Rattle.bit_entities.proofs.Others.{number_other}
 use Rattle.bit_entities.proofs.Worlds.{now_lives, living_is_world, dead_lacks}
 use Rattle.bit_entities.proofs.World.spawn.Goals as goal
 
@@ -72,3 +73,11 @@ pub returns-clause-was_dead : goal.returns-clause-was_dead
 returns-clause-was_dead g c =
     let alive : PlainSet = set_in g.B.Shape g.B.Order.Endian c.args.self.now.alive in
     (outside alive c.in_ok-entity.entity c.in_ok-entity.ensures.2).1
+
+pub returns-clause-others : goal.returns-clause-others
+returns-clause-others g c other apart =
+    let alive : PlainSet = set_in g.B.Shape g.B.Order.Endian c.args.self.now.alive in
+    let entity = c.in_ok-entity.entity in
+    let below = outside alive entity c.in_ok-entity.ensures.2 in
+    number_other alive entity true _ (c.set_bit.ensures.set ∙ put_in alive entity below.0) other
+    (λ same. apart (ap Some (sym same)))
