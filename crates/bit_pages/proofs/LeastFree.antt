@@ -130,6 +130,11 @@ taken-within s p h = ltb-true p s.capacity (and_parts (nat_lt p s.capacity) (s.h
 pub taken-member : (s : PlainSet) (p : ℕ) → is_taken s p ≡ true → s.has p ≡ true
 taken-member s p h = (and_parts (nat_lt p s.capacity) (s.has p) h).1
 
+-- a page that is not taken is no member of the set
+pub free-member : (s : PlainSet) (p : ℕ) → p < s.capacity → is_taken s p ≡ false →
+    s.has p ≡ false
+free-member s p h e = sym (ap (λ b. b && s.has p) (lt-ltb p s.capacity h)) ∙ e
+
 -- if all pages are taken, `least_free` is None
 pub least_free-full : (s : PlainSet) → size s ≡ s.capacity → least_free s ≡ None
 least_free-full s full = by (least_free s) (least_free-is s)

@@ -1,12 +1,12 @@
 -- The map after a page is taken or given back.
 use Rattle.std.proofs.Common.{◌≡◌, ◌≢◌, ℕ, ◌+◌, ◌<◌, true, false, not, ◌&&◌, ◌||◌, ◌==◌, nat_lt, Option, Some, None, refl, sym, ap, ◌∙◌}
 use Rattle.std.specs.Prelude.{MatchOption}
-use Rattle.std.proofs.lemmas.Bool.{and_parts, eq-eqb, ne_eqb, lt-ltb, and_right, or_right}
+use Rattle.std.proofs.lemmas.Bool.{eq-eqb, ne_eqb, lt-ltb, and_right}
 use Rattle.bittle.specs.PlainSet.{PlainSet, with_index, without_index, size}
 use Rattle.bittle.proofs.CallerChanges.{size_with, size_without}
 use Rattle.bittle.proofs.CallerSets.{with_index_within, without_index_within}
 use Rattle.bit_pages.specs.PageLaws.{IsLeastFree}
-use Rattle.bit_pages.specs.Pages.{is_taken, least_free, with_found}
+use Rattle.bit_pages.specs.Pages.{is_taken, least_free, with_page}
 use Rattle.bit_pages.proofs.LeastFree.{least_free-is, taken-within, taken-member}
 
 -- the page that was found is the least free one
@@ -18,33 +18,28 @@ found_is_least s page = by (least_free s) (least_free-is s)
     by None all e = absurd (cc)
     by (Some q) least e = let same : q ≡ page = cc in rw same at least
 
--- the map after the least free page was taken
-module _ (s t : PlainSet) (page : ℕ) (found : least_free s ≡ Some page)
+-- the map after a free page was taken
+module _ (s t : PlainSet) (page : ℕ) (within : page < s.capacity) (free : s.has page ≡ false)
     (after : t ≡ with_index s page) where
-  least : IsLeastFree s page
-  least = found_is_least s page found
-
   pub was_free : is_taken s page ≡ false
-  was_free = ap (λ b. nat_lt page s.capacity && b) least.is_free
+  was_free = ap (λ b. nat_lt page s.capacity && b) free
       ∙ and_right (nat_lt page s.capacity) false refl
 
-  pub with_least : t ≡ with_found s (least_free s)
-  with_least = after ∙ with_index_within s page least.within ∙ ap (with_found s) (sym found)
+  pub with_it : t ≡ with_page s page
+  with_it = after ∙ with_index_within s page within
 
   pub is_now_taken : is_taken t page ≡ true
-  is_now_taken = ap (λ u. is_taken u page) (after ∙ with_index_within s page least.within)
-      ∙ ap (λ b. b && ((page == page) || s.has page)) (lt-ltb page s.capacity least.within)
+  is_now_taken = ap (λ u. is_taken u page) with_it
+      ∙ ap (λ b. b && ((page == page) || s.has page)) (lt-ltb page s.capacity within)
       ∙ ap (λ b. b || s.has page) (eq-eqb page page refl)
 
-  -- a page that is taken stays taken
-  pub stays_taken : (k : ℕ) → is_taken s k ≡ true → is_taken t k ≡ true
-  stays_taken k h =
-      let parts = and_parts (nat_lt k s.capacity) (s.has k) h in
-      ap (λ u. is_taken u k) (after ∙ with_index_within s page least.within)
-      ∙ ap (λ b. b && ((k == page) || s.has k)) parts.0 ∙ or_right (k == page) (s.has k) parts.1
+  -- another page stays as it was
+  pub others_same : (k : ℕ) → k ≢ page → is_taken t k ≡ is_taken s k
+  others_same k apart = ap (λ u. is_taken u k) with_it
+      ∙ ap (λ b. nat_lt k s.capacity && (b || s.has k)) (ne_eqb k page apart)
 
   pub one_more : size t ≡ size s + 1
-  one_more = ap size after ∙ size_with s page least.within least.is_free
+  one_more = ap size after ∙ size_with s page within free
 
 -- the map after a taken page was given back
 module _ (s t : PlainSet) (page : ℕ) (taken : is_taken s page ≡ true)

@@ -3,13 +3,14 @@
 
 ghost use Rattle.std.specs.Option.{is_some};
 ghost use Rattle.std.specs.Prelude.{◌≡◌, ◌≢◌, ℕ, ◌+◌, ◌-◌, ◌<◌, ◌≤◌, ◌↔◌, cond, length, true, false};
-ghost use Rattle.std.specs.Prelude.{IfSome, IsTrue, IsOk, MatchOption, is_ok};
+ghost use Rattle.std.specs.Prelude.{IfSome, IsTrue, IsOk, MatchOption, Some, is_ok};
 ghost use Rattle.bittle.specs.Comparison.{AreSame};
 ghost use Rattle.bittle.specs.PlainSet.{complement, empty_set, size, with_span, without_span};
 ghost use Rattle.bittle.specs.Searches.{NoneIn};
 ghost use Rattle.bittle.specs.Shapes.{Fits};
 ghost use Rattle.bittle.specs.Values.{set_in};
-ghost use Rattle.bit_pages.specs.Pages.{is_taken, least_free, answer_to, state_after};
+ghost use Rattle.bit_pages.specs.PageLaws.{IsLeastFree};
+ghost use Rattle.bit_pages.specs.Pages.{is_taken, least_free, with_page, answer_to, state_after};
 ghost use Rattle.bit_pages.specs.Pages.{first_free_run, is_run_taken, request_answers, final_state};
 ghost use Rattle.bittle_ext.specs.Runs.{IsFirstRun, IsRun};
 
@@ -117,6 +118,8 @@ impl<B: BitsOwned> Pages<B> {
     /// the page, or nothing if all pages are taken.
     pub fn take(&mut self) -> Option<u32>
         ensures page { result ≡ least_free (set_in B.Shape B.Order.Endian self.old.map) }
+        ensures found { let before = set_in B.Shape B.Order.Endian self.old.map in
+            MatchOption result (size before ≡ B.type_capacity) (IsLeastFree before) }
         ensures below { IfSome result (λ page. page < B.type_capacity) }
         ensures was_free { IfSome result
             (λ page. is_taken (set_in B.Shape B.Order.Endian self.old.map) page ≡ false) }
@@ -124,9 +127,9 @@ impl<B: BitsOwned> Pages<B> {
             (λ page. is_taken (set_in B.Shape B.Order.Endian self.new.map) page ≡ true) }
         ensures count { size (set_in B.Shape B.Order.Endian self.new.map)
             ≡ size (set_in B.Shape B.Order.Endian self.old.map) + cond (is_some result) 1 0 }
-        ensures others { (page : ℕ)
-            → is_taken (set_in B.Shape B.Order.Endian self.old.map) page ≡ true
-            → is_taken (set_in B.Shape B.Order.Endian self.new.map) page ≡ true }
+        ensures others { (page : ℕ) → result ≢ Some page
+            → is_taken (set_in B.Shape B.Order.Endian self.new.map) page
+            ≡ is_taken (set_in B.Shape B.Order.Endian self.old.map) page }
         ensures pages { set_in B.Shape B.Order.Endian self.new.map
             ≡ state_after (set_in B.Shape B.Order.Endian self.old.map) Request.Take }
     {
@@ -138,6 +141,36 @@ impl<B: BitsOwned> Pages<B> {
         self.map.set_bit(page);
         self.count += 1;
         Some(page)
+    }
+
+    /// Takes a page that you choose, and returns `true`. If the page is taken, the call changes
+    /// nothing and returns `false`. A number past the last page is no page, and does not wrap: the
+    /// call changes nothing and returns `false`. It costs O(1). No request of
+    /// [`serve`](Pages::serve) stands for this call.
+    ///
+    /// After `Pages::<u8>::new()`, `take_at(5)` returns `true` once and then `false`; `take_at(8)`
+    /// returns `false`.
+    pub fn take_at(&mut self, page: u32) -> bool
+        ensures free { let before = set_in B.Shape B.Order.Endian self.old.map in
+            IsTrue result ↔ ((page < B.type_capacity) × (is_taken before page ≡ false)) }
+        ensures below { IsTrue result → page < B.type_capacity }
+        ensures taken { page < B.type_capacity
+            → is_taken (set_in B.Shape B.Order.Endian self.new.map) page ≡ true }
+        ensures count { size (set_in B.Shape B.Order.Endian self.new.map)
+            ≡ size (set_in B.Shape B.Order.Endian self.old.map) + cond result 1 0 }
+        ensures others { (other : ℕ) → other ≢ page
+            → is_taken (set_in B.Shape B.Order.Endian self.new.map) other
+            ≡ is_taken (set_in B.Shape B.Order.Endian self.old.map) other }
+        ensures pages { let before = set_in B.Shape B.Order.Endian self.old.map in
+            set_in B.Shape B.Order.Endian self.new.map
+            ≡ cond result (with_page before page) before }
+    {
+        if page >= B::bits() || self.is_taken(page) {
+            return false;
+        }
+        self.map.set_bit(page);
+        self.count += 1;
+        true
     }
 
     /// Makes a page free again. If the page is not taken, the call changes nothing and returns
@@ -239,7 +272,8 @@ impl<B: BitsOwned> Pages<B> {
     /// Returns whether the number is a page, and taken. A number past the last page is no page.
     // In the map, a number past the last page would wrap to a page.
     pub fn is_taken(&self, page: u32) -> bool
-        ensures { result ≡ is_taken (set_in B.Shape B.Order.Endian self.now.map) page }
+        ensures value { result ≡ is_taken (set_in B.Shape B.Order.Endian self.now.map) page }
+        ensures below { IsTrue result → page < B.type_capacity }
     {
         page < B::bits() && self.map.test_bit(page)
     }
