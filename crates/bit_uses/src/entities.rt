@@ -55,15 +55,16 @@ pub fn step<B: BitsOwned, const N: usize>(
     movers.count_ones()
 }
 
-/// Moves an entity if it has a place and a speed. Others stay where they are.
+/// Moves an entity if it has a place and a speed. Others stay where they are. A number past the
+/// capacity is no entity, and may be past the end of both tables.
 pub fn step_one<B: BitsOwned, const N: usize>(
     world: &World<B, N>,
     places: &mut [i32],
     speeds: &[i32],
     entity: u32,
 )
-    requires places { entity < length places.old }
-    requires speeds { entity < length speeds.now }
+    requires places { B.type_capacity ≤ length places.old }
+    requires speeds { B.type_capacity ≤ length speeds.now }
     ensures others { (other : ℕ) → other ≢ entity
         → slice_get places.new other ≡ slice_get places.old other }
     ensures stays { let all = world_of N (set_in B.Shape B.Order.Endian) world.now.alive
@@ -159,6 +160,73 @@ pub fn remove_and_ask<B: BitsOwned, const N: usize>(
 {
     world.remove(entity);
     world.is_alive(entity) || world.has(entity, component)
+}
+
+/// Spawns an entity, and returns whether `other`, which was alive before, still is. The result is
+/// always `true`, also if `other` was not alive before.
+pub fn spawn_beside<B: BitsOwned, const N: usize>(world: &mut World<B, N>, other: u32) -> bool
+    ensures { result ≡ true }
+{
+    if !world.is_alive(other) {
+        return true;
+    }
+    let _entity = world.spawn();
+    world.is_alive(other)
+}
+
+/// Removes `entity`, and returns whether `other` has `component` afterwards, and whether it had the
+/// component before. Both are equal unless the two entities are one.
+pub fn remove_beside<B: BitsOwned, const N: usize>(
+    world: &mut World<B, N>,
+    entity: u32,
+    other: u32,
+    component: u32,
+) -> (bool, bool)
+    ensures { other ≢ entity → result.0 ≡ result.1 }
+{
+    let had = world.has(other, component);
+    world.remove(entity);
+    (world.has(other, component), had)
+}
+
+/// Gives `entity` a speed and takes its place away. Returns whether `other` has a place afterwards,
+/// and whether it had a place before. Both are equal unless the two entities are one.
+pub fn change_beside<B: BitsOwned, const N: usize>(
+    world: &mut World<B, N>,
+    entity: u32,
+    other: u32,
+) -> (bool, bool)
+    ensures { other ≢ entity → result.0 ≡ result.1 }
+{
+    let had = world.has(other, PLACE);
+    world.attach(entity, SPEED);
+    world.detach(entity, PLACE);
+    (world.has(other, PLACE), had)
+}
+
+/// Takes the speed from `entity`, and returns whether it has a place afterwards, and whether it had
+/// a place before. Both are equal.
+pub fn stop<B: BitsOwned, const N: usize>(world: &mut World<B, N>, entity: u32) -> (bool, bool)
+    ensures { result.0 ≡ result.1 }
+{
+    let had = world.has(entity, PLACE);
+    world.detach(entity, SPEED);
+    (world.has(entity, PLACE), had)
+}
+
+/// Returns how many numbers are free for new entities. The check proves that the difference is not
+/// below 0.
+pub fn free_numbers<B: BitsOwned, const N: usize>(world: &World<B, N>) -> u32
+    ensures { result ≤ B.type_capacity }
+{
+    world.capacity() - world.len()
+}
+
+/// Counts the living entities by the set that the world lends.
+pub fn how_many_live<B: BitsOwned, const N: usize>(world: &World<B, N>) -> u32
+    ensures { result ≡ size (set_in B.Shape B.Order.Endian world.now.alive) }
+{
+    world.alive().count_ones()
 }
 
 /// Returns the name of the first entity that has a speed, or `None` if no entity has one. The table
