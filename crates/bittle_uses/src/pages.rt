@@ -1,7 +1,8 @@
 //! Callers of an allocator of pages. What one call promises is what the next call requires. No
 //! caller has a proof file.
 
-ghost use Rattle.std.specs.Prelude.{◌≡◌, ◌≢◌, ◌+◌, ◌<◌, ◌≤◌, IfSome, IsTrue, true, length, map, [], ◌∷◌, List};
+ghost use Rattle.std.specs.Prelude.{◌≡◌, ◌≢◌, ◌+◌, ◌<◌, ◌≤◌, IfSome, IsTrue, true, length};
+ghost use Rattle.std.specs.Prelude.{if◌then◌else◌, map, [], ◌∷◌, List};
 ghost use Rattle.bit_pages.specs.CallHistories.{IsHistory};
 ghost use Rattle.bit_pages.specs.PageLaws.{pages_back, pages_given, total};
 ghost use Rattle.bit_pages.specs.Pages.{is_taken, page_or_full, run_or_none};
@@ -59,6 +60,72 @@ pub fn take_and_ask<B: BitsOwned>(pages: &mut Pages<B>) -> bool
     match pages.take() {
         Some(page) => pages.is_taken(page),
         None => true,
+    }
+}
+
+/// Takes a page, and returns whether the page `other`, which was taken before, still is. The result
+/// is always `true`, also if `other` was not taken before.
+pub fn take_and_ask_another<B: BitsOwned>(pages: &mut Pages<B>, other: u32) -> bool
+    ensures { result ≡ true }
+{
+    if !pages.is_taken(other) {
+        return true;
+    }
+    let _page = pages.take();
+    pages.is_taken(other)
+}
+
+/// Takes a page unless the counts say that all pages are taken. Returns `true`: if the counts
+/// differ, `take` finds a page.
+pub fn take_if_not_full<B: BitsOwned>(pages: &mut Pages<B>) -> bool
+    ensures { result ≡ true }
+{
+    if pages.taken() == pages.pages() {
+        return true;
+    }
+    pages.take().is_some()
+}
+
+/// Takes the pages `one` and `other`, and returns whether `one` is taken afterwards. The result is
+/// always `true` if `one` is a page.
+pub fn reserve_both<B: BitsOwned>(pages: &mut Pages<B>, one: u32, other: u32) -> bool
+    ensures { one < B.type_capacity → one ≢ other → result ≡ true }
+{
+    pages.take_at(one);
+    pages.take_at(other);
+    pages.is_taken(one)
+}
+
+/// Takes the page `one`, and then the least free page. Returns whether these are two pages. The
+/// result is `true` also if `one` or every page was taken before.
+pub fn reserve_and_take<B: BitsOwned>(pages: &mut Pages<B>, one: u32) -> bool
+    ensures { result ≡ true }
+{
+    if !pages.take_at(one) {
+        return true;
+    }
+    match pages.take() {
+        Some(page) => page != one,
+        None => true,
+    }
+}
+
+/// Takes the page `one`, and returns how many pages are taken afterwards, or `None` if `one` is not
+/// a free page.
+pub fn reserve_and_count<B: BitsOwned>(pages: &mut Pages<B>, one: u32) -> Option<u32>
+    ensures { IfSome result (λ count.
+        count ≡ size (set_in B.Shape B.Order.Endian pages.old.map) + 1) }
+{
+    if !pages.take_at(one) {
+        return None;
+    }
+    Some(pages.taken())
+}
+
+/// Writes `owner` to the entry of a page in `owners`, if the page is taken.
+pub fn own(pages: &Pages<u8>, owners: &mut [u32; 8], page: u32, owner: u32) {
+    if pages.is_taken(page) {
+        owners[page as usize] = owner;
     }
 }
 
@@ -150,6 +217,24 @@ pub fn take_both<B: BitsOwned>(pages: &mut Pages<B>, length: u32) -> (Option<u32
     let page = pages.take();
     let first = pages.take_run(length);
     (page, first)
+}
+
+/// Gives back a page and then a run of pages, and returns whether each was taken. The clause says
+/// that the two calls, with what they return, are a history of calls, as that of [`take_both`].
+pub fn give_both_back<B: BitsOwned>(
+    pages: &mut Pages<B>,
+    page: u32,
+    first: u32,
+    length: u32,
+) -> (bool, bool)
+    ensures { IsHistory (set_in B.Shape B.Order.Endian pages.old.map)
+        ((Request.GiveBack page, if result.0 then Answer.Given else Answer.NotTaken)
+        ∷ (Request.GiveBackRun first length, if result.1 then Answer.Given else Answer.NotTaken)
+        ∷ []) (set_in B.Shape B.Order.Endian pages.new.map) }
+{
+    let page = pages.give_back(page).is_ok();
+    let run = pages.give_back_run(first, length).is_ok();
+    (page, run)
 }
 
 /// States that the requests and the answers of any sequence of calls tell how many more pages are

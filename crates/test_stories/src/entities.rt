@@ -101,6 +101,7 @@ fn the_example(rt: HostRuntime) {
     same!(rt; world.matching(&[0, 1]), 0b10);
     same!(rt; (world.remove(1), world.spawn()), (true, Some(1)));
     holds!(rt; !world.has(1, 0) && !world.has(1, 1));
+    same!(rt; world.len(), 2);
 }
 
 // Spawns `often` times, and returns what the last spawn returns.
@@ -122,6 +123,8 @@ fn a_full_world(rt: HostRuntime) {
     same!(rt; world.spawn(), Some(3));
     holds!(rt; !world.has(3, 0) && world.detach(3, 0) && !world.attach(8, 0));
     same!(rt; world.matching(&[]), 255);
+    holds!(rt; world.remove(6));
+    same!(rt; (world.len(), world.capacity(), *world.alive()), (7, 8, 0b1011_1111));
 }
 
 #[test]

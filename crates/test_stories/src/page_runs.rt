@@ -22,6 +22,24 @@ fn runs_of_eight_pages(rt: HostRuntime) {
 }
 
 #[test]
+fn chosen_pages(rt: HostRuntime) {
+    let mut pages = Pages::with_taken(0b0000_0001u8);
+    same!(rt; (pages.take_at(5), pages.take_at(5), pages.take_at(0)), (true, false, false));
+    same!(rt; (pages.take_at(8), pages.take_at(13), pages.taken()), (false, false, 2));
+    same!(rt; (pages.take(), pages.give_back(5), pages.take_at(5)), (Some(1), Ok(()), true));
+    same!(rt; pages.into_map(), 0b0010_0011);
+    let mut none = Pages::<[u8; 0]>::new();
+    same!(rt; none.take_at(0), false);
+}
+
+#[test]
+fn chosen_pages_in_the_other_order(rt: HostRuntime) {
+    let mut pages = Pages::<Set<u8, LittleEndian>>::new();
+    same!(rt; (pages.take_at(1), pages.take_at(8)), (true, false));
+    same!(rt; pages.into_map().into_bits(), 0b0100_0000);
+}
+
+#[test]
 fn requests_of_pages_and_runs(rt: HostRuntime) {
     let mut pages = Pages::with_taken(0b0100_1001u8);
     let mut answers = [Answer::Full; 9];
