@@ -9,7 +9,7 @@ ghost use Rattle.bittle.specs.Searches.{PassesOver, TellsGroups};
 ghost use Rattle.bittle.specs.Values.{set_in, ShapeFits};
 
 use bittle::{BigEndian, Endian};
-use bittle_bits::extension::{End, Ones, ReadWords, end_in};
+use bittle_bits::extension::{End, Ones, ReadWords, end_in, words_at_end};
 
 /// Returns a number with one bit for each of 64 groups of words. Bit `i` stands for group
 /// `64 * n + i`, and each group has `64 ^ level` words. The bit of a group is unset only if no bit
@@ -28,14 +28,6 @@ pub fn told_of_both<A: ReadWords, B: ReadWords, E: Endian, F: Endian>(
         (both_of (set_in A.Shape E.Endian left.now) (set_in B.Shape F.Endian right.now)) n result }
 {
     left.groups_told::<Ones>(n, level) & right.groups_told::<Ones>(n, level)
-}
-
-// Returns `front` if the end `N` is the front, and else `back`.
-#[inline(always)]
-fn at_end<N: End>(front: usize, back: usize) -> usize
-    ensures { result ≡ cond N.FRONT front back }
-{
-    if N::FRONT { front } else { back }
 }
 
 // Moves the end `N` past groups of `64 ^ level` words in which one of the sets has no set bit, up
@@ -58,14 +50,14 @@ fn moved<A: ReadWords, B: ReadWords, E: Endian, F: Endian, N: End>(
     ensures whole { result.1 ≡ false → (result.0 % 64 ≡ 0) × (result.0 ≢ at) }
     ensures near { result.0 ≤ at + 64 }
 {
-    let number = at - at_end::<N>(0, 1);
+    let number = at - words_at_end::<N>(0, 1);
     let start = number / 64 * 64;
-    let from = at_end::<N>(number % 64, 0);
-    let to = at_end::<N>(64, number % 64 + 1);
+    let from = words_at_end::<N>(number % 64, 0);
+    let to = words_at_end::<N>(64, number % 64 + 1);
     let told = told_of_both::<A, B, E, F>(left, right, number / 64, level);
     match end_in::<u64, BigEndian, Ones, N>(&told, from as u32, to as u32) {
-        Some(place) => (start + place as usize + at_end::<N>(0, 1), true),
-        None => (start + at_end::<N>(64, 0), false),
+        Some(place) => (start + place as usize + words_at_end::<N>(0, 1), true),
+        None => (start + words_at_end::<N>(64, 0), false),
     }
 }
 
@@ -103,7 +95,7 @@ pub fn passed_by_groups<A: ReadWords, B: ReadWords, E: Endian, F: Endian, N: End
     ensures { PassesOver N.FRONT A.width (both_of
         (set_in A.Shape E.Endian left.now) (set_in B.Shape F.Endian right.now)) low high result }
 {
-    let mut at = at_end::<N>(low, high);
+    let mut at = words_at_end::<N>(low, high);
     while is_inside::<N>(low, high, at) {
         let (on, may_have) = moved::<A, B, E, F, N>(left, right, 0, at);
         if may_have || !is_inside::<N>(low, high, on) {
