@@ -1,13 +1,14 @@
 -- Sets after one bit was changed in its word.
 use Rattle.std.proofs.Common.{◌≡◌, ℕ, ◌+◌, ◌-◌, ◌*◌, ◌/◌, ◌%◌, ◌^◌, ◌<◌, ◌≤◌, Bool, true, false, cond, not, ◌&&◌, ◌||◌, ◌==◌, nat_lt, inl, inr, refl, sym, ap, ◌∙◌, arith}
-use Rattle.std.proofs.Math.Bool.{and-true, or-false}
+use Rattle.std.proofs.Math.Bool.{and-true, or-false, or-true}
 use Rattle.std.proofs.Math.Path.{fun_ext}
 use Rattle.std.proofs.lemmas.Nat.{div-add-mod', div_below, mod_below}
 use Rattle.std.proofs.lemmas.Bool.{and_right, cases_eq, cases_lt, eq-eqb, lt-ltb, ne_eqb, true≢false}
 use Rattle.bittle.specs.BitPatterns.{bit_has, bit_set}
 use Rattle.bittle.specs.SetOperations.{combination_of, first_alone}
+use Rattle.bittle.specs.Walk.{ones_or_zeros}
 use Rattle.bittle.specs.Words.{word_of, ReplacesWord}
-use Rattle.bittle_bits.proofs.OnesOrZeros.{digits_of_complement, ones_or_zeros-word_of}
+use Rattle.bittle_bits.proofs.OnesOrZeros.{ones_or_zeros-word_of}
 use Rattle.bittle_bits.proofs.PlaceLemmas.{place_in_word}
 use Rattle.bittle_bits.proofs.PlainSets.{plain_set, contains_in, has_with-in}
 use Rattle.bittle_bits.proofs.SetOperations.{combination-below}
@@ -69,8 +70,24 @@ combined_alone f m w i d mask r word one is o h =
     ∙ ap (f ((read_in m w (bit_set w d)).has o)) (ap (λ u. u.has o) one
     ∙ ap (λ p. p o) (has_with-in (empty_set w) w i refl word) ∙ or-false (o == i % w))
 
+-- a bit that loses its kind (if the second flag is true), or stays: it is cleared if its kind is that
+-- of the set bits, and set if it is that of the unset bits
+abbrev pub flipped : Bool → Bool → Bool → Bool
+flipped true = first_alone
+flipped false = ◌||◌
+
+-- a bit whose kind is not asked for stays
+pub flipped_keeps : (ones b : Bool) → flipped ones b false ≡ b
+flipped_keeps true b = and-true b
+flipped_keeps false b = or-false b
+
+-- a bit of the kind becomes one of the other kind
+pub flipped_turns : (ones b : Bool) → flipped ones b true ≡ not ones
+flipped_turns true b = and_right b false refl
+flipped_turns false b = or-true b
+
 -- a word without its least bit is that word with the place of this bit taken out
-pub taken_alone : (w j : ℕ) (p q : ℕ → Bool) → IsPopped w j p q → (o : ℕ) → o < w →
+taken_alone : (w j : ℕ) (p q : ℕ → Bool) → IsPopped w j p q → (o : ℕ) → o < w →
     q o ≡ first_alone (p o) (o == j)
 taken_alone w j p q pop o h = elim (cases_eq o j) [
   | inl e ↦ ap q e ∙ pop.gone ∙ sym (ap (λ b. p o && not b) (eq-eqb o j e)
@@ -78,24 +95,31 @@ taken_alone w j p q pop o h = elim (cases_eq o j) [
   | inr n ↦ pop.others o h n ∙ sym (ap (λ b. p o && not b) (ne_eqb o j n) ∙ and-true (p o))
 ]
 
--- the inverted word has a bit set exactly if it is unset in the word
-unset_digit : (m : Bool) (w d e o : ℕ) → d < 2 ^ w → e ≡ 2 ^ w - 1 - d → o < w →
-    (read_in m w (bit_set w e)).has o ≡ not ((read_in m w (bit_set w d)).has o)
+-- e has the bits of d that are of a kind: a place of e is set exactly if d has a bit of the kind there
+kind_digit : (ones m : Bool) (w d e o : ℕ) → bit_set w e ≡ ones_or_zeros ones (bit_set w d) → o < w →
+    (read_in m w (bit_set w e)).has o ≡ cond ones ((read_in m w (bit_set w d)).has o)
+    (not ((read_in m w (bit_set w d)).has o))
 unfolding lacks
-unset_digit m w d e o fits is h =
-    ap (λ u. u.has (place m w o)) (digits_of_complement w d e fits is)
+kind_digit true m w d e o is h = ap (λ u. u.has (place m w o)) is
+kind_digit false m w d e o is h =
+    ap (λ u. u.has (place m w o)) is
     ∙ ap (λ b. b && not (bit_has w d (place m w o))) (lt-ltb _ _ (place_in_word m w o h))
 
--- a word is inverted, loses its least set bit, and is inverted again: the result is the word with
--- the bit at that place set
-pub added_alone : (m : Bool) (w j d e rest r : ℕ) → d < 2 ^ w → e ≡ 2 ^ w - 1 - d →
-    rest < 2 ^ w → r ≡ 2 ^ w - 1 - rest →
+-- e has the bits of d that are of a kind, loses its least one, and r has the rest of that kind: then r
+-- is d with the bit at that place flipped
+pub flipped_alone : (ones m : Bool) (w j d e rest r : ℕ) →
+    bit_set w e ≡ ones_or_zeros ones (bit_set w d) →
+    bit_set w r ≡ ones_or_zeros ones (bit_set w rest) →
     IsPopped w j (read_in m w (bit_set w e)).has (read_in m w (bit_set w rest)).has → (o : ℕ) →
-    o < w → (read_in m w (bit_set w r)).has o ≡ ((read_in m w (bit_set w d)).has o || (o == j))
-added_alone m w j d e rest r fits is small turned pop o h =
-    unset_digit m w rest r o small turned h
+    o < w → (read_in m w (bit_set w r)).has o
+    ≡ flipped ones ((read_in m w (bit_set w d)).has o) (o == j)
+flipped_alone true m w j d e rest r first last pop o h =
+    kind_digit true m w rest r o last h ∙ taken_alone w j _ _ pop o h
+    ∙ ap (λ b. b && not (o == j)) (kind_digit true m w d e o first h)
+flipped_alone false m w j d e rest r first last pop o h =
+    kind_digit false m w rest r o last h
     ∙ ap not (taken_alone w j _ _ pop o h
-    ∙ ap (λ b. b && not (o == j)) (unset_digit m w d e o fits is h))
+    ∙ ap (λ b. b && not (o == j)) (kind_digit false m w d e o first h))
     ∙ either ((read_in m w (bit_set w d)).has o) (o == j)
   where
     either : (a b : Bool) → not (not a && not b) ≡ a || b
@@ -104,15 +128,21 @@ added_alone m w j d e rest r fits is small turned pop o h =
     either false true = refl
     either false false = refl
 
--- the inverse of the word that holds an index holds it in the complement of the set
-pub holds_unset : (m : Bool) (w k i d e : ℕ) (s : PlainSet) → HoldsIndex m w k i d s →
-    d < 2 ^ w → e ≡ 2 ^ w - 1 - d → (words : ℕ) × (s.capacity ≡ words * w) →
-    HoldsIndex m w k i e (complement s)
-holds_unset m w k i d e s at fits is whole = record {
+-- the bits of a kind in the word that holds an index hold it in the set of the bits of that kind
+pub holds_kind : (ones m : Bool) (w k i d e : ℕ) (s : PlainSet) → HoldsIndex m w k i d s →
+    bit_set w e ≡ ones_or_zeros ones (bit_set w d) → (words : ℕ) × (s.capacity ≡ words * w) →
+    HoldsIndex m w k i e (ones_or_zeros ones s)
+holds_kind true m w k i d e s at is whole = record {
   word = at.word;
   where_is = at.where_is;
   within = at.within;
-  ours = digits_of_complement w d e fits is ∙ ap complement at.ours
+  ours = is ∙ at.ours;
+}
+holds_kind false m w k i d e s at is whole = record {
+  word = at.word;
+  where_is = at.where_is;
+  within = at.within;
+  ours = is ∙ ap complement at.ours
       ∙ ones_or_zeros-word_of false w k s (word_inside w k whole.0 s.capacity s.capacity
       (sym whole.1) refl (omega (
         arith,

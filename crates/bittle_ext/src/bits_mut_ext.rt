@@ -233,7 +233,7 @@ pub trait BitsMutExt: BitsMut + Sized {
         ensures stays { Self.loan self.old ≡ Self.loan self.new }
     {
         let first = first_from::<Self, Self::Order, Ones>(&*self, 0)?;
-        one_bit::clear_first::<Self, Self::Order>(self, first);
+        one_bit::flip_first::<Self, Self::Order, Ones>(self, first);
         Some(first)
     }
 
@@ -293,7 +293,7 @@ pub trait BitsMutExt: BitsMut + Sized {
         ensures stays { Self.loan self.old ≡ Self.loan self.new }
     {
         let free = first_from::<Self, Self::Order, Zeros>(&*self, 0)?;
-        one_bit::set_first::<Self, Self::Order>(self, free);
+        one_bit::flip_first::<Self, Self::Order, Zeros>(self, free);
         Some(free)
     }
 

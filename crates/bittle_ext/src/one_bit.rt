@@ -1,12 +1,12 @@
 //! Changes one bit of a set in its word, without a branch on the bit.
 
-ghost use Rattle.std.specs.Prelude.{◌≡◌, ◌<◌, true, IsTrue};
+ghost use Rattle.std.specs.Prelude.{◌≡◌, ◌<◌, not, true, IsTrue};
 ghost use Rattle.bittle_ext.specs.Changes.{with_index_assigned};
-ghost use Rattle.bittle.specs.PlainSet.{complement, contains, with_index, without_index, IsLeastMember};
-ghost use Rattle.bittle.specs.Values.{set_in, ShapeFits};
+ghost use Rattle.bittle.specs.PlainSet.{contains, IsLeastMember};
+ghost use Rattle.bittle.specs.Values.{kind_in, set_in, ShapeFits};
 
 use bittle::{Bits, BitsMut, Endian};
-use bittle_bits::extension::{Front, RangeOperation, Word, pop};
+use bittle_bits::extension::{Front, Kind, RangeOperation, Word, bits_of_kind, pop, word_width};
 
 /// Returns whether the shape of a set fits, and its capacity is not 0.
 #[inline]
@@ -38,39 +38,22 @@ pub fn combine_within<B: BitsMut, E: Endian, O: RangeOperation>(set: &mut B, ind
     !word.and(mask).is_zero()
 }
 
-/// Clears the least set bit, which is the bit at `first`. In big-endian order no mask is made from
-/// the index: there the bit has the least weight of the set bits in its word.
+/// Flips the least bit of the kind `K`, which is the bit at `first`: it is cleared if `K` is `Ones`,
+/// and set if `K` is `Zeros`. In big-endian order no mask is made from the index: there the bit has
+/// the least weight of the bits of its kind in its word.
 #[inline]
-pub fn clear_first<B: BitsMut, E: Endian>(set: &mut B, first: u32)
+pub fn flip_first<B: BitsMut, E: Endian, K: Kind>(set: &mut B, first: u32)
     requires fits { ShapeFits B.Shape set.old }
     requires within { first < (B.big set.old).capacity }
-    requires least { IsLeastMember (set_in B.Shape E.Endian set.old) first }
+    requires least { IsLeastMember (kind_in B.Shape E.Endian K.Kind set.old) first }
     ensures set { set_in B.Shape E.Endian set.new
-        ≡ without_index (set_in B.Shape E.Endian set.old) first }
+        ≡ with_index_assigned (set_in B.Shape E.Endian set.old) first (not K.ONES) }
     ensures stays { B.loan set.old ≡ B.loan set.new }
 {
-    let k = (first / <B::LeafWord as Word>::width()) as usize;
-    let mut word = set.nth_leaf_word(k);
-    if let Some(_) = pop::<B::LeafWord, E, Front>(&mut word) {
-        set.set_nth_leaf_word(k, word);
-    }
-}
-
-/// Sets the least unset bit, which is the bit at `free`. In big-endian order no mask is made from
-/// the index: there the bit has the least weight of the unset bits in its word.
-#[inline]
-pub fn set_first<B: BitsMut, E: Endian>(set: &mut B, free: u32)
-    requires fits { ShapeFits B.Shape set.old }
-    requires within { free < (B.big set.old).capacity }
-    requires least { IsLeastMember (complement (set_in B.Shape E.Endian set.old)) free }
-    ensures set { set_in B.Shape E.Endian set.new
-        ≡ with_index (set_in B.Shape E.Endian set.old) free }
-    ensures stays { B.loan set.old ≡ B.loan set.new }
-{
-    let k = (free / <B::LeafWord as Word>::width()) as usize;
-    let mut unset = set.nth_leaf_word(k).not();
-    if let Some(_) = pop::<B::LeafWord, E, Front>(&mut unset) {
-        set.set_nth_leaf_word(k, unset.not());
+    let k = (first / word_width::<B>()) as usize;
+    let mut bits = bits_of_kind::<B::LeafWord, K>(set.nth_leaf_word(k));
+    if let Some(_) = pop::<B::LeafWord, E, Front>(&mut bits) {
+        set.set_nth_leaf_word(k, bits_of_kind::<B::LeafWord, K>(bits));
     }
 }
 

@@ -8,8 +8,8 @@ pub returns-in_err-first-clause-fewer : goal.returns-in_err-first-clause-fewer
 returns-in_err-first-clause-fewer g c =
     rw c.from_residual.ensures (size_zero _ c.in_err-first.ensures)
 
-pub clear_first-requires-clause-least : goal.clear_first-requires-clause-least
-clear_first-requires-clause-least g c =
+pub flip_first-requires-clause-least : goal.flip_first-requires-clause-least
+flip_first-requires-clause-least g c =
     let found = c.in_ok-first.ensures in
     record {
       within = omega (arith, found.1);
@@ -20,4 +20,4 @@ clear_first-requires-clause-least g c =
 pub returns-clause-fewer : goal.returns-clause-fewer
 returns-clause-fewer g c =
     let found = c.in_ok-first.ensures in
-    ap (λ t. size t + 1) c.clear_first.ensures.set ∙ sym (size_without _ _ found.1 found.2)
+    ap (λ t. size t + 1) c.flip_first.ensures.set ∙ sym (size_without _ _ found.1 found.2)

@@ -7,8 +7,8 @@ use Rattle.bittle.proofs.CallerSets.{complement_within, size_zero}
 use Rattle.bittle_bits.proofs.Sizes.{size-complement}
 use Rattle.bittle_ext.proofs.bits_mut_ext.BitsMutExt.take_first_zero.Goals as goal
 
-pub set_first-requires-clause-least : goal.set_first-requires-clause-least
-set_first-requires-clause-least g c =
+pub flip_first-requires-clause-least : goal.flip_first-requires-clause-least
+flip_first-requires-clause-least g c =
     let found = c.in_ok-free.ensures in
     record {
       within = omega (arith, found.1);
@@ -28,4 +28,4 @@ returns-clause-more g c =
     let found = c.in_ok-free.ensures in
     let unset : s.has c.in_ok-free.free ≡ false =
     not-true _ (sym (complement_within s _ found.1) ∙ found.2) in
-    ap size c.set_first.ensures.set ∙ size_with s _ found.1 unset
+    ap size c.flip_first.ensures.set ∙ size_with s _ found.1 unset
