@@ -3,10 +3,11 @@
 
 ghost use Rattle.std.specs.Prelude.{◌≡◌, ◌*◌, ◌<◌, ◌↔◌, IsTrue, IsOk, IfSome, length, true, false};
 ghost use Rattle.bittle.specs.BitPatterns.{bit_set};
-ghost use Rattle.bittle.specs.PlainSet.{with_index};
+ghost use Rattle.bittle.specs.PlainSet.{size, with_index};
+ghost use Rattle.bittle.specs.Rows.{row_set};
 ghost use Rattle.bittle.specs.Values.{set_in, ShapeFits};
 
-use bittle::{Bits, BitsMut, LittleEndian, Set};
+use bittle::{Bits, BitsMut, LittleEndian};
 use bittle_ext::{BitsIndexExt, BitsIndexMutExt, BitsMutViewExt};
 
 /// The error for an edge that leads out of the graph.
@@ -39,12 +40,8 @@ pub fn visit_ends(seen: &mut [u8; 5], ends: &[u32]) -> usize {
 }
 
 /// Visits the ends of edges in a graph whose number of nodes is known only at run time. Returns how
-/// many of the ends are no node. Before the loop the words are put into a `Set`, since the checker
-/// does not know in a loop that a slice keeps its length.
-pub fn visit_ends_in(seen: &mut [u64], ends: &[u32]) -> usize
-    requires { length seen.old * 64 < 4294967295 }
-{
-    let mut seen = Set::from_mut(seen);
+/// many of the ends are no node. The slice may be of any length.
+pub fn visit_ends_in(mut seen: &mut [u64], ends: &[u32]) -> usize {
     let mut out = 0usize;
     for end in ends.iter() {
         if seen.try_insert(*end).is_none() {
@@ -92,10 +89,20 @@ pub fn set_below(mask: &mut u64, index: u32) -> bool
     mask.try_set_bit(index)
 }
 
-/// Clears a bit of a slice, and returns `true`. Returns `false` and changes nothing if the slice is
-/// too long or the index is past its end.
+/// Clears a bit of a slice of any length, and returns whether there is such a bit.
 pub fn clear_checked(mut words: &mut [u64], index: u32) -> bool
     ensures { IsTrue result → index < length words.old * 64 }
 {
-    words.bits_capacity() < u32::MAX && words.try_clear_bit(index)
+    words.try_clear_bit(index)
+}
+
+/// Visits a node, and returns how many nodes are seen then.
+pub fn visit_and_count(seen: &mut [u64; 4], node: u32) -> u32
+    ensures { result ≡ size (row_set 4 64 (bit_set 64) seen.new) }
+{
+    let before = seen.count_ones();
+    match seen.try_insert(node) {
+        Some(true) => before + 1,
+        _ => before,
+    }
 }

@@ -14,7 +14,7 @@ ghost use Rattle.bittle_ext.specs.Combined.{both_of, either_of, first_only_of, j
 ghost use Rattle.bittle_ext.specs.Views.{rounded_up};
 
 use bittle::{Bits, Endian, LittleEndian, Set};
-use bittle_ext::{BitsOwnedExt, BitsViewExt, View};
+use bittle_ext::{BitsOwnedExt, BitsRelationExt, BitsViewExt, View};
 
 /// Counts the items of an iterator over the bits that are set in both of two words.
 pub fn count_common(one: u64, other: u64) -> usize
@@ -106,6 +106,30 @@ pub fn ends(one: u8, other: u8) -> (Option<u32>, Option<u32>)
     let mut walk = one.or(&other).into_ones();
     let first = walk.next();
     (first, walk.next_back())
+}
+
+/// Returns the entry of a table at the greatest index of a row that is read in little-endian order,
+/// or 0 if there is none. The iterator is kept in a variable, and owns its view.
+pub fn last_little(row: &[u8; 4], table: &[u32; 32]) -> u32 {
+    let mut walk = row.in_order::<LittleEndian>().into_ones();
+    match walk.next_back() {
+        Some(index) => table[index as usize],
+        None => 0,
+    }
+}
+
+/// Returns the weight of the least index that a long row shares with a byte, or 0 if there is none.
+/// The table has as many entries as the byte has bits.
+pub fn shared_weight(row: &[u64; 4], byte: u8, weights: &[u32; 8]) -> u32 {
+    match row.first_common(&byte) {
+        Some(index) => weights[index as usize],
+        None => 0,
+    }
+}
+
+/// Returns the price of as many members as a long row shares with a byte.
+pub fn shared_price(row: &[u64; 4], byte: u8, prices: &[u32; 9]) -> u32 {
+    prices[row.count_common(&byte) as usize]
 }
 
 /// Returns the entry of `table` at the greatest bit that is set in both a byte and a longer word,
