@@ -5,8 +5,8 @@ ghost use Rattle.std.specs.Prelude.{◌≤◌, IsTrue};
 
 use crate::asked::Asked;
 use crate::probe_rows::{Measured, costs, measure_rows};
-use bittle::BitsOwned;
-use bittle_ext::{BitsIndexMutExt, BitsMutExt};
+use bittle::{BitsOwned, LittleEndian};
+use bittle_ext::{BitsIndexMutExt, BitsMutExt, BitsMutViewExt};
 use std::process::Abort;
 
 // The calls that change the rows.
@@ -55,6 +55,7 @@ fn change_one_bit<B: BitsOwned>(rt: &impl Abort, mut few: B, asked: &Asked)
     requires { IsTrue B.indexable }
 {
     costs!(rt; asked, few.insert(451), false, 1, 1);
+    costs!(rt; asked, few.in_order_mut::<LittleEndian>().insert(451), false, 1, 1);
     costs!(rt; asked, few.insert(0), true, 1, 1);
     costs!(rt; asked, few.remove(0), true, 1, 1);
     costs!(rt; asked, few.remove(0), false, 1, 1);

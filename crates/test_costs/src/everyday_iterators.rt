@@ -114,7 +114,8 @@ fn a_view_asks_what_a_call_on_its_set_asks(rt: HostRuntime) {
     measure_rows(&rt, Walk::OneSet);
 }
 
-// A search fetches word 0 before it skips to the words of the range.
+// A search may fetch one word outside of the range: word 0 or the last word. If it finds no bit in the
+// range, it stops at the end of the range.
 fn view_ranges<B: Bits>(rt: &impl Abort, few: &B, asked: &Asked)
     requires { ShapeFits B.Shape few.now }
 {
@@ -124,6 +125,8 @@ fn view_ranges<B: Bits>(rt: &impl Abort, few: &B, asked: &Asked)
     costs!(rt; asked, count(few.within(130, 500).iter_ones()), 1, 6, 0);
     costs!(rt; asked, few.within(130, 500).first_one(), Some(451), 7, 0);
     costs!(rt; asked, few.within(130, 500).test_bit(451), true, 1, 0);
+    costs!(rt; asked, few.within(130, 451).next_one(130), None, 6, 0);
+    costs!(rt; asked, few.within(130, 451).last_one(), None, 7, 0);
 }
 
 #[test]

@@ -7,7 +7,7 @@ use crate::asked::Asked;
 use crate::probe_rows::{Measured, costs, measure_rows};
 use crate::walked::count_owned;
 use bittle::{Bits, BitsOwned};
-use bittle_ext::{BitsExt, BitsIndexExt, BitsSpanExt};
+use bittle_ext::{BitsExt, BitsIndexExt, BitsRankExt, BitsSpanExt};
 use std::process::Abort;
 
 // The calls that read the rows.
@@ -90,6 +90,7 @@ fn count_ranges<B: Bits>(rt: &impl Abort, few: &B, asked: &Asked)
 {
     costs!(rt; asked, few.rank(385), 0, 7, 0);
     costs!(rt; asked, few.rank(0), 0, 0, 0);
+    costs!(rt; asked, few.rank_zero(385), 385, 7, 0);
     costs!(rt; asked, few.count_ones_in_range(130, 500), 1, 6, 0);
     costs!(rt; asked, few.count_zeros_in_range(130, 500), 369, 6, 0);
     costs!(rt; asked, few.count_zeros_in_range(130, 130), 0, 0, 0);
@@ -137,6 +138,7 @@ fn select_two<B: Bits>(rt: &impl Abort, few: &B, many: &B, asked: &Asked)
 {
     costs!(rt; asked, few.select(1), Some(508), 9, 0);
     costs!(rt; asked, few.select(2), None, 12, 0);
+    costs!(rt; asked, few.select_zero(451), Some(452), 9, 0);
     costs!(rt; asked, many.select(0), Some(0), 2, 0);
 }
 

@@ -11,7 +11,7 @@ use crate::probe::{ONES, Probe, ZEROS};
 use crate::walked::{count_ones, count_zeros};
 use bit_pages::Pages;
 use bittle::{BigEndian, Bits, BitsOwned, LittleEndian, Set, Shape};
-use bittle_ext::{BitsExt, BitsRangeExt, BitsViewExt};
+use bittle_ext::{BitsExt, BitsRangeExt, BitsRelationExt, BitsViewExt};
 use bittle_tiers::{Ones, Tiered, Zeros};
 use std::process::Abort;
 
@@ -59,6 +59,7 @@ enum Question {
     ChangeOfBit,
     TwoSets,
     Common(usize),
+    Relations,
     Views,
     Runs,
     RunWalks,
@@ -74,6 +75,7 @@ fn ask<B: BitsOwned>(rt: &impl Abort, question: Question, one: B, other: B, aske
         Question::ChangeOfBit => change_bit(rt, one, asked),
         Question::TwoSets => same!(*rt; count_both_and_alone(&one, &other), (0, 2)),
         Question::Common(wanted) => same!(*rt; count_ones(&one.and(&other)), wanted),
+        Question::Relations => same!(*rt; relate(&one, &other), (false, false)),
         Question::Views => count_in_views(rt, &one),
         Question::Runs => look_for_runs(rt, &one),
         Question::RunWalks => same!(*rt; count_runs(&one), (2, 2)),
@@ -208,6 +210,22 @@ fn a_view_of_two_sets_passes_over_what_either_tells(rt: HostRuntime) {
     // sets is fetched. For the members that only the first set has, words 0 and 3 of both sets are
     // fetched, and one word between them.
     ask_ones(&rt, Question::TwoSets, [0, 0, 4, 0], (4, 4, 0));
+}
+
+// Returns whether two sets have a common member, and whether the second has each member of the first.
+fn relate<A: Bits, B: Bits>(left: &A, right: &B) -> (bool, bool)
+    requires left { ShapeFits A.Shape left.now }
+    requires right { ShapeFits B.Shape right.now }
+{
+    (left.intersects(right), left.is_subset(right))
+}
+
+#[test]
+fn a_relation_passes_over_what_either_tells(rt: HostRuntime) {
+    // The words 0 and 3 of the first set have a set bit, and word 2 of the second. Each call fetches
+    // word 0 of both sets. For a common member that is all: no other word has a set bit in both. For
+    // a member that only the first set has, word 0 decides.
+    ask_ones(&rt, Question::Relations, [0, 0, 4, 0], (2, 2, 0));
 }
 
 // Uses an iterator to count the common members of the sets with the bytes `ONES` and `bytes`. The
