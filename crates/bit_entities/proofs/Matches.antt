@@ -1,5 +1,5 @@
 -- The entities that have each of a list of components.
-use Rattle.std.proofs.Common.{◌≡◌, ℕ, zero, suc, ◌+◌, ◌<◌, ◌≤◌, Bool, true, false, cond, ◌&&◌, List, [], ◌∷◌, length, take, get_or, inl, inr, refl, sym, ap, ◌∙◌, arith}
+use Rattle.std.proofs.Common.{◌≡◌, ℕ, zero, suc, ◌+◌, ◌<◌, ◌≤◌, Bool, true, false, cond, ◌&&◌, List, [], ◌∷◌, length, take, get_or, inl, inr, refl, sym, ap, subst, ◌∙◌, ◌↔◌, arith}
 use Rattle.std.specs.List.{list_all}
 use Rattle.std.proofs.lemmas.Bool.{cases_lt, cases_Bool, le-ltb, and_parts, true≢false}
 use Rattle.std.proofs.lemmas.List.Folds.{list_all_more, list_all_at}
@@ -54,14 +54,6 @@ matching_more w required i d h = λ j. record {
     by : (a b c : Bool) → ((a && b) && c) ≡ (a && (b && c))
     by true b c = refl
     by false b c = refl
-
--- if no component is required, all living entities match
-pub matching_none : (w : World) → w.alive ≡ matching w []
-matching_none w = λ j. record { capacity = w.alive.capacity; has = λ k. by (w.alive.has k) j }
-  where
-    by : (a : Bool) → a ≡ (a && true)
-    by true = refl
-    by false = refl
 
 -- no number past the capacity matches
 pub matching_ends : (w : World) (required : List ℕ) → IsWorld w →
@@ -124,6 +116,33 @@ visits_from s low from (suc n) h none e =
     )
     by false lacks later = later low (omega (arith, h)) (further lacks)
 
-pub visits_all : (s : PlainSet) → VisitsFrom s 0 (ascending s)
+visits_all : (s : PlainSet) → VisitsFrom s 0 (ascending s)
 visits_all s = visits_from s 0 0 s.capacity (omega arith)
     (λ k p q. absurd (omega (arith, q))) (omega arith)
+
+-- two lists that visit the members from a number on are the same
+visits_once : (s : PlainSet) (from : ℕ) (xs ys : List ℕ) → VisitsFrom s from xs →
+    VisitsFrom s from ys → xs ≡ ys
+unfolding VisitsFrom
+visits_once s from [] [] xs_visit ys_visit = refl
+visits_once s from [] (y ∷ ys) none some = absurd (true≢false (sym some.0.2 ∙ none y some.0.0 some.0.1))
+visits_once s from (x ∷ xs) [] some none = absurd (true≢false (sym some.0.2 ∙ none x some.0.0 some.0.1))
+visits_once s from (x ∷ xs) (y ∷ ys) ours theirs =
+    let same : x ≡ y = elim (cases_lt x y) [
+      | inl l ↦ absurd (true≢false (sym ours.0.2 ∙ theirs.0.3 x ours.0.0 l))
+      | inr g ↦ elim (cases_lt y x) [
+        | inl l ↦ absurd (true≢false (sym theirs.0.2 ∙ ours.0.3 y theirs.0.0 l))
+        | inr g' ↦ omega (arith, g, g')
+      ]
+    ] in
+    let rest = visits_once s (suc x) xs ys ours.1
+    (subst (λ n. VisitsFrom s (suc n) ys) (sym same) theirs.1) in
+    λ i. same i ∷ rest i
+
+-- a list visits all members exactly if it is the increasing list of them
+pub visits_exactly : (s : PlainSet) (visited : List ℕ) →
+    VisitsFrom s 0 visited ↔ (visited ≡ ascending s)
+visits_exactly s visited = (
+  λ h. visits_once s 0 visited (ascending s) h (visits_all s),
+  λ e. subst (VisitsFrom s 0) (sym e) (visits_all s),
+)

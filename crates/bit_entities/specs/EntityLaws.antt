@@ -9,7 +9,7 @@ use Rattle.bit_entities.specs.declared.Event.TheVariants.{Spawn, Remove, Attach,
 use Rattle.bit_entities.specs.declared.Answer.{Answer}
 use Rattle.bit_entities.specs.declared.Answer.TheVariants.{Spawned, Full, Done, Refused}
 
--- if no dead entity has a component, this stays so after any events
+-- a world stays as `IsWorld` says after any events
 abbrev pub WorldsStayWorlds : Type 0
 WorldsStayWorlds = (w : World) (events : List Event) → IsWorld w → IsWorld (final_world w events)
 
@@ -42,7 +42,7 @@ FullExactlyIfAllAreAlive =
     → (answer_to w event ≡ Full)
     ↔ ((event ≡ Spawn) × ((k : ℕ) → k < w.alive.capacity → w.alive.has k ≡ true))
 
--- an event that is refused changes nothing
+-- an event that is answered by Refused or Full changes nothing
 abbrev pub RefusedChangesNothing : Type 0
 RefusedChangesNothing =
     (w : World) (event : Event)
@@ -108,8 +108,9 @@ VisitsFrom s from [] = NoneIn s from s.capacity
 VisitsFrom s from (entity ∷ rest) =
     IsFirstIn s from s.capacity (Some entity) × VisitsFrom s (suc entity) rest
 
--- a query visits just the living entities that have the components, each once, in increasing order
+-- a list visits the living entities that have the components exactly if it is their increasing list
 abbrev pub QueriesVisitEachOnce : Type 0
 QueriesVisitEachOnce =
-    (w : World) (required : List ℕ)
-    → VisitsFrom (matching w required) 0 (ascending (matching w required))
+    (w : World) (required visited : List ℕ)
+    → VisitsFrom (matching w required) 0 visited
+    ↔ (visited ≡ ascending (matching w required))

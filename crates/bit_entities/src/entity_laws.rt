@@ -9,7 +9,8 @@ ghost use Rattle.bit_entities.specs.EntityLaws.{AnswersAreOfTheirWorlds, Spawned
 ghost use Rattle.bit_entities.specs.EntityLaws.{LivingAreRemovedFirst};
 ghost use Rattle.bit_entities.specs.EntityLaws.{ComponentsAreThoseKept, QueriesVisitEachOnce};
 
-/// States that if no dead entity has a component, this stays so after any list of events.
+/// States that a world stays as `IsWorld` says after any list of events. So if no dead entity has a
+/// component, this stays so.
 pub fn worlds_stay_worlds()
     ensures { WorldsStayWorlds }
 {}
@@ -30,7 +31,7 @@ pub fn full_exactly_if_all_are_alive()
     ensures { FullExactlyIfAllAreAlive }
 {}
 
-/// States that an event that is refused changes nothing.
+/// States that an event that is answered by `Refused` or `Full` changes nothing.
 pub fn refused_changes_nothing()
     ensures { RefusedChangesNothing }
 {}
@@ -58,8 +59,9 @@ pub fn components_are_those_kept()
     ensures { ComponentsAreThoseKept }
 {}
 
-/// States that a query visits just the living entities that have the components, each once and in
-/// increasing order.
+/// States that a loop that begins with the least entity of a query, and goes on with the least one
+/// past each, visits just the living entities that have the components, each once and in increasing
+/// order.
 pub fn queries_visit_each_once()
     ensures { QueriesVisitEachOnce }
 {}

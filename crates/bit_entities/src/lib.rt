@@ -45,11 +45,13 @@ use bittle::BitsOwned;
 pub enum Event {
     /// Asks for a new entity: answered by [`Answer::Spawned`] or [`Answer::Full`].
     Spawn,
-    /// Removes an entity with its components.
+    /// Removes an entity with its components: answered by [`Answer::Done`] or [`Answer::Refused`].
     Remove(u32),
     /// Gives a component to an entity. The first number is the entity, the second the component.
+    /// The event is answered by [`Answer::Done`] or [`Answer::Refused`].
     Attach(u32, u32),
     /// Takes a component from an entity. The first number is the entity, the second the component.
+    /// The event is answered by [`Answer::Done`] or [`Answer::Refused`].
     Detach(u32, u32),
 }
 

@@ -57,10 +57,10 @@ pub struct Refused;
 impl fmt::Display for Refused {
     ghost use Rattle.std.specs.Prelude.{Some, codes};
 
-    ghost output = { λ _. Some (codes "no such role, permission or parent") };
+    ghost output = { λ _. Some (codes "no such role or permission, or the parent is not less than the role") };
 
     fn fmt<W: fmt::Write>(&self, f: &mut fmt::Formatter<W>) -> fmt::Result {
-        f.write_str("no such role, permission or parent")
+        f.write_str("no such role or permission, or the parent is not less than the role")
     }
 }
 
@@ -175,7 +175,8 @@ impl<B: BitsOwned, const N: usize> Roles<B, N> {
 
     /// Returns whether a role allows a permission: whether the permission was granted to the role
     /// itself, or to a role that its chain of parents leads to. The call tests one bit for each
-    /// role of the chain, up to the first that was granted the permission.
+    /// role of the chain, up to the first that was granted the permission. It returns `false` if
+    /// there is no such role or permission.
     pub fn allows(&self, role: u32, permission: u32) -> bool
         ensures value { IsTrue result ↔ Allows (roles_of N B.type_capacity
             (set_in B.Shape B.Order.Endian) self.now.granted self.now.parents) role permission }

@@ -169,12 +169,6 @@ module _ {V : Type 0} (test : Slot V → Bool) (s : PlainSet) (row : List (Slot 
         ∙ sym (ap (passes test) (slice_get_past row k (omega arith)))
   ]
 
--- the empty set has exactly the slots below 0 that pass
-pub marks_none : {V : Type 0} (test : Slot V → Bool) (s : PlainSet) (row : List (Slot V)) (c : ℕ) →
-    s ≡ empty_set c → MarksBelow test s row 0
-marks_none test s row c is k = ap (λ u. u.has k) is
-    ∙ sym (ap (λ b. b && is_slot test row k) (le-ltb k 0 (omega arith)))
-
 -- `is_slot` tests the slot that is in the row
 pub slot_is : {V : Type 0} (test : Slot V → Bool) (row : List (Slot V)) (i : ℕ) (d : Slot V) →
     i < length row → is_slot test row i ≡ test (get_or row i d)

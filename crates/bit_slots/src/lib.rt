@@ -3,8 +3,8 @@
 //!
 //! A key names a slot and a generation of it. When a value is taken out, its slot goes on to the
 //! next generation, so the next value in that slot has another key. A slot whose generations are
-//! used up is retired. So no key ever stands for two values. The caller owns the row of slots, and
-//! no memory is allocated.
+//! used up is retired. So no two values that are put in get the same key. The caller owns the row
+//! of slots, and no memory is allocated.
 //!
 //! ```rust
 //! let mut row = [Slot::new(), Slot::new()];

@@ -420,20 +420,6 @@ one_more ones w k s u v tells here others = λ j below within. elim (cases_eq j 
   | inr n ↦ others j n ∙ tells j (omega arith) within
 ]
 
--- a summary that is right except for the words k..=last, and is updated for word k, is right except
--- for the words k + 1..=last
-pub one_more_around : (ones : Bool) (w first last k : ℕ) (s u v : PlainSet) →
-    TellsAround ones w s u first last k → v.has k ≡ some_in_word ones w s k →
-    ((j : ℕ) → j ≢ k → v.has j ≡ u.has j) → TellsAround ones w s v first last (k + 1)
-one_more_around ones w first last k s u v tells here others = λ j inside within.
-    elim (cases_eq j k) [
-      | inl e ↦ rw e here
-      | inr n ↦ others j n ∙ tells j (λ lo hi. below_next j k n (inside lo hi)) within
-    ]
-  where
-    below_next : (j k : ℕ) → j ≢ k → j < k + 1 → j < k
-    below_next j k n h = omega arith
-
 -- after a change of a span, the old summary is right except for the words that have a bit of the
 -- span
 pub tells_around : (ones : Bool) (change : Bool → Bool) (m : Bool) (w from to : ℕ)

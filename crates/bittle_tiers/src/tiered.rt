@@ -36,8 +36,8 @@ use std::marker::PhantomData;
 /// The summary may have a summary itself. Use the kind [`Ones`] for that second summary, since a
 /// search looks for the set bits of the first one.
 ///
-/// The summary needs one bit for each word of the map. If it has too few bits, the shape does not
-/// fit: `bits()` and `bits_capacity()` return `u32::MAX`.
+/// The summary needs one bit for each word of the map. If it has too few bits, the type does not
+/// fit: `bits()` returns `u32::MAX`, and no call makes a value.
 ///
 /// ```
 /// let mut taken = Tiered::<[u64; 64], u64, Zeros>::ones();

@@ -86,7 +86,7 @@ fn a_parent_in_place_of_another(rt: HostRuntime) -> Result<(), Fail> {
     // There is no permission 11, and 11 does not wrap to 3.
     holds!(rt; !roles.allows(0, 11) && !roles.is_granted(0, 11));
     let text = format!(in rt.alloc(); "{Refused}")?;
-    same!(rt; text.as_str(), "no such role, permission or parent");
+    same!(rt; text.as_str(), "no such role or permission, or the parent is not less than the role");
     Ok(())
 }
 

@@ -1,4 +1,4 @@
-use Rattle.std.proofs.Common.{◌<◌, ◌∷◌, [], length, get_or, refl, sym, ap, ◌∙◌, subst, arith}
+use Rattle.std.proofs.Common.{◌<◌, ◌∷◌, [], length, get_or, refl, ap, ◌∙◌, arith}
 use Rattle.std.specs.Prelude.{pos}
 use Rattle.std.specs.Int.{int_wrapping_add, w32}
 use Rattle.std.proofs.lemmas.List.{length-set}
@@ -6,8 +6,7 @@ use Rattle.std.proofs.lemmas.Option.{slice_get-get_or}
 use Rattle.bittle.specs.PlainSet.{PlainSet, ascending}
 use Rattle.bittle.specs.Values.{set_in}
 use Rattle.bit_entities.specs.Entities.{matching, world_of}
-use Rattle.bit_entities.specs.EntityLaws.{VisitsFrom}
-use Rattle.bit_entities.proofs.Matches.{matching_ends, visits_all}
+use Rattle.bit_entities.proofs.Matches.{matching_ends, visits_exactly}
 use Rattle.bit_uses.proofs.Steps.{none_stepped, next_below, next_stepped, none_left}
 use Rattle.bit_uses.proofs.entities.step.Given.{Over}
 use Rattle.bit_uses.proofs.entities.step.Goals.{In-Some}
@@ -23,7 +22,7 @@ loop-entity-init g c =
     record {
       places = refl;
       stepped = none_stepped movers (int_wrapping_add w32) c.args.places.now c.args.speeds.now _
-          (subst (VisitsFrom movers 0) (sym all) (visits_all movers));
+          ((visits_exactly movers _).1 all);
     }
 
 -- the entity is an index of both tables
