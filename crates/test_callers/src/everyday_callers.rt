@@ -5,6 +5,7 @@ use bittle::Bits;
 use bittle_ext_uses::any_changes::add_each;
 use bittle_ext_uses::blocks::Blocks;
 use bittle_ext_uses::checked_indexes::visit_ends_in;
+use bittle_ext_uses::combined_walks::{last_little, shared_price, shared_weight};
 use bittle_ext_uses::equal_sets::copied;
 use bittle_ext_uses::field::Field;
 use bittle_ext_uses::filled::fill;
@@ -48,6 +49,29 @@ fn nodes_that_a_graph_does_not_have(rt: HostRuntime) {
     let mut byte = 0b0001u8;
     same!(rt; add_each(&mut byte, &[7, 8, 0, 65]), 2);
     same!(rt; byte, 0b1000_0001);
+}
+
+#[test]
+fn entries_at_what_a_row_and_a_byte_share(rt: HostRuntime) {
+    // The row has the indexes 3, 7 and 200, and the byte has 1, 3 and 7. They share 3 and 7.
+    let row = [1u64 << 7 | 1 << 3, 0, 0, 1 << 8];
+    let weights = [10u32, 11, 12, 13, 14, 15, 16, 17];
+    same!(rt; shared_weight(&row, 0b1000_1010, &weights), 13);
+    same!(rt; shared_weight(&row, 0b0010, &weights), 0);
+    let prices = [1u32, 5, 9, 12, 14, 15, 16, 17, 18];
+    same!(rt; shared_price(&row, 0b1000_1010, &prices), 9);
+    same!(rt; shared_price(&[0; 4], 0b1000_1010, &prices), 1);
+}
+
+#[test]
+fn the_last_index_of_a_row_in_little_endian_order(rt: HostRuntime) {
+    // Index 0 is the leftmost bit of the first byte, and index 23 the rightmost bit of the third.
+    let mut table = [0u32; 32];
+    table[0] = 7;
+    table[23] = 42;
+    same!(rt; last_little(&[0x80, 0, 1, 0], &table), 42);
+    same!(rt; last_little(&[0x80, 0, 0, 0], &table), 7);
+    same!(rt; last_little(&[0; 4], &table), 0);
 }
 
 #[test]
