@@ -1,16 +1,10 @@
 -- How many numbers are members of two sets.
 use Rattle.std.proofs.Common.{◌≡◌, ℕ, zero, suc, ◌+◌, ◌*◌, ◌/◌, ◌<◌, ◌≤◌, Bool, true, false, ◌&&◌, cond, min, max, Some, refl, sym, ap, ◌∙◌, arith}
 use Rattle.std.proofs.Math.Nat.{mul-le-mul_right, div-mul-le_self}
-use Rattle.bittle.specs.BitPatterns.{bit_set}
-use Rattle.bittle.specs.Orders.{read_in}
-use Rattle.bittle.specs.Words.{word_of}
 use Rattle.bittle.specs.PlainSet.{PlainSet, count_below, members_below, size}
 use Rattle.bittle.specs.SetOperations.{first_alone, just_one}
 use Rattle.bittle.specs.Searches.{NoneIn, IsFirstIn}
-use Rattle.bittle_bits.specs.LawProofs.{one_word}
-use Rattle.bittle_bits.proofs.Sizes.{size-members}
-use Rattle.bittle_bits.proofs.Words.{word_has-at}
-use Rattle.bittle_bits.proofs.Counts.{count-add, count-same, count-le}
+use Rattle.bittle_bits.proofs.Counts.{count-le}
 use Rattle.bittle_ext.specs.Combined.{both_of, just_one_of, CountsBoth}
 use Rattle.bittle_ext.specs.RangeMembers.{EndsAt}
 use Rattle.bittle_ext.proofs.RankFacts.{below_stays, below_past, below_next}
@@ -42,17 +36,6 @@ all_numbers (suc n) p q =
       omega (arith, below.1, here.1),
       omega (arith, below.2, here.2),
     )
-
--- the number of bits in word k, read in an order, is the number of the set's members in that word
-pub below_next_in_order : (m : Bool) (w k : ℕ) (s : PlainSet) (d n : ℕ) → 0 < w →
-    read_in m w (bit_set w d) ≡ word_of w s k → n ≡ size (bit_set w d) →
-    members_below s ((k + 1) * w) ≡ members_below s (k * w) + n
-below_next_in_order m w k s d n word is count =
-    let next : (k + 1) * w ≡ k * w + w = omega arith in
-    let counted : n ≡ count_below w (λ i. s.has (k * w + i)) =
-    count ∙ sym (size-members m w (bit_set w d) word (one_word w))
-    ∙ count-same w _ _ (λ i b. ap (λ t. t.has i) is ∙ word_has-at w s k i b) in
-    rw next (omega (arith, counted, count-add (k * w) w s.has))
 
 -- if k is below the number of words of c bits, word k ends at or before c
 pub word_inside : (w v c k : ℕ) → v ≡ w → k < c / v → (k + 1) * w ≤ c

@@ -12,7 +12,7 @@ use crate::capacities::capacity_of;
 use crate::runs;
 use crate::select::{index_of_rank, word_of_rank};
 use bittle::Bits;
-use bittle_bits::extension::{Ones, Word, Zeros, first_from, last_of};
+use bittle_bits::extension::{Ones, Zeros, first_from, last_of, word_width};
 
 /// Questions about any set, beyond the calls of [`Bits`].
 ///
@@ -185,7 +185,7 @@ pub trait BitsExt: Bits + Sized {
             ≡ slice_get (ascending (set_in Self.Shape Self.Order.Endian self.now)) rank }
         ensures below { IfSome result (λ index. index < (Self.big self.now).capacity) }
     {
-        let width = <Self::LeafWord as Word>::width();
+        let width = word_width::<Self>();
         match word_of_rank::<Self, Self::Order>(self, rank) {
             Some((k, rest)) => Some(k * width + index_of_rank::<Self, Self::Order>(self, k, rest)),
             None => None,

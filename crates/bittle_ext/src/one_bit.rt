@@ -31,7 +31,7 @@ pub fn combine_within<B: BitsMut, E: Endian, O: RangeOperation>(set: &mut B, ind
         ≡ with_index_assigned before index (O.decide (contains before index) true) }
     ensures stays { B.loan set.old ≡ B.loan set.new }
 {
-    let k = (index / <B::LeafWord as Word>::width()) as usize;
+    let k = (index / word_width::<B>()) as usize;
     let mask = E::mask::<B::LeafWord>(index);
     let word = set.nth_leaf_word(k);
     set.set_nth_leaf_word(k, O::on_words::<B::LeafWord>(word, mask));

@@ -7,19 +7,9 @@ ghost use Rattle.bittle.specs.PlainSet.{members_below};
 ghost use Rattle.bittle.specs.Values.{set_in, ShapeFits};
 
 use crate::numbers::{low_bits_of, turned, width_of};
+use crate::views::by_words::count_word;
 use bittle::{Bits, Endian};
-use bittle_bits::extension::Word;
-
-/// Counts the set bits of word `k`.
-#[inline]
-fn count_word<B: Bits, E: Endian>(bits: &B, k: u32) -> u32
-    requires fits { ShapeFits B.Shape bits.now }
-    requires word { k * B.width < (B.big bits.now).capacity }
-    ensures { let ours = set_in B.Shape E.Endian bits.now in
-        members_below ours (k * B.width) + result ≡ members_below ours ((k + 1) * B.width) }
-{
-    bits.nth_leaf_word(k as usize).count_ones()
-}
+use bittle_bits::extension::{Word, word_width};
 
 /// Finds the set bit with the rank `rank`. Returns the number of its word, and how many bits of
 /// that word are set below this bit. Returns `None` if no set bit has this rank.
@@ -29,7 +19,7 @@ pub fn word_of_rank<B: Bits, E: Endian>(bits: &B, rank: u32) -> Option<(u32, u32
     ensures { let ours = set_in B.Shape E.Endian bits.now in
         MatchOption result (HasNoRank ours rank) (λ at. IsInWord ours B.width rank at.0 at.1) }
 {
-    let width = <B::LeafWord as Word>::width();
+    let width = word_width::<B>();
     let mut rest = rank;
     for k in 0..bits.bits_capacity() / width {
         let count = count_word::<B, E>(bits, k);

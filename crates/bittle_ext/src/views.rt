@@ -31,7 +31,7 @@ use bittle_bits::extension::{Conjunction, Difference, OwnedSource, SymmetricDiff
 use bittle_bits::walk::{IntoIter, IntoIterOnes, IntoIterZeros};
 
 mod by_groups;
-mod by_words;
+pub(crate) mod by_words;
 pub mod complement;
 pub(crate) mod edges;
 pub mod in_order;

@@ -12,11 +12,11 @@ use bittle_bits::extension::{
 
 /// Counts the set bits of word `k`.
 #[inline(always)]
-fn count_word<B: ReadWords>(bits: &B, k: u32) -> u32
+pub fn count_word<B: ReadWords, E: Endian>(bits: &B, k: u32) -> u32
     requires fits { ShapeFits B.Shape bits.now }
-    requires within { k * B.width < (B.big bits.now).capacity }
-    ensures { members_below (B.big bits.now) ((k + 1) * B.width)
-        ≡ members_below (B.big bits.now) (k * B.width) + result }
+    requires word { k * B.width < (B.big bits.now).capacity }
+    ensures { let ours = set_in B.Shape E.Endian bits.now in
+        members_below ours (k * B.width) + result ≡ members_below ours ((k + 1) * B.width) }
 {
     bits.nth_leaf_word(k as usize).count_ones()
 }
@@ -32,7 +32,7 @@ pub fn count<B: ReadWords>(bits: &B) -> u32
 {
     let mut count = 0;
     for k in 0..bits.capacity() / word_width::<B>() {
-        count += count_word::<B>(bits, k);
+        count += count_word::<B, BigEndian>(bits, k);
     }
     count
 }

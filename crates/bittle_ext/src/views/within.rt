@@ -21,8 +21,8 @@ pub type Within<'a, B, E> = KindWithin<'a, B, E, Ones>;
 /// A view in which exactly the bits of the kind `K` (set or unset) in a range of a borrowed set are
 /// set. The view has the capacity of that set, and both are read in the order `E`. Each word is
 /// computed when it is read. An iterator over the set bits of the view reads only the words of the
-/// range. A search may read one word before the range. If no bit of the range is set, it also reads
-/// the words past the range.
+/// range. A search may first read one word outside of the range; else it reads only words of the
+/// range.
 #[derive(Drop)]
 pub struct KindWithin<'a, B: Shape, E: Endian, K: Kind> {
     set: &'a B,

@@ -13,9 +13,9 @@ returns g c =
     let old = c.args.set.now in
     let new = c.set_nth_leaf_word.new.self in
     let one = rw wide at c.mask-mask.ensures in
-    let at = holds_index m w _ i _ (g.B.Shape.big old) b.width_positive (c.width.ensures ∙ wide)
+    let at = holds_index m w _ i _ (g.B.Shape.big old) b.width_positive c.word_width.ensures
     c.requires.within c.nth_leaf_word-word.ensures in
-    let combined : CombinesIndex g.O.Operation.decide m w (i / c.width.result) i _ _
+    let combined : CombinesIndex g.O.Operation.decide m w (i / c.word_width.result) i _ _
     (g.B.Shape.big old) (g.B.Shape.big new) = record {
       keeps = g.met.O.RangeOperation.keeps_others;
       is = combined_alone g.O.Operation.decide m w i _ _ _ b.width_positive one

@@ -16,6 +16,6 @@ returns g c =
     let s = set_in g.B.Shape g.E.Endian c.args.bits.now in
     let end = end_of_words g.B.Shape.width s.capacity _ _ c.loop-k.k b.width_positive
     (b.whole_words c.args.bits.now) (c.bits_capacity.ensures.value c.requires)
-    (c.width-width.ensures ∙ b.leaf_width)
+    c.word_width-width.ensures
     (omega (arith, c.loop-k-test.false, c.loop-k.auto.k-end)) in
     omega (arith, c.loop-k.invariant, ap (members_below s) end)

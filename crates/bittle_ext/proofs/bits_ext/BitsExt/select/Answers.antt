@@ -9,11 +9,10 @@ overflow_add-result g c =
     let b = g.met.Self.ReadWords in
     let w = g.Self.Shape.width in
     let s = set_in g.Self.Shape g.Self.Order.Endian c.args.self.now in
-    let wide : c.width-width.result ≡ w = c.width-width.ensures ∙ b.leaf_width in
-    let at : c.in-Some.k * c.width-width.result ≡ c.in-Some.k * w = ap (λ v. c.in-Some.k * v) wide in
+    let wide = c.word_width-width.ensures in
     omega (
       arith,
-      at,
+      ap (λ v. c.in-Some.k * v) wide,
       word_ends w c.in-Some.k s.capacity (b.whole_words c.args.self.now) c.in-Some.ensures.0,
       c.index_of_rank.ensures.within,
       c.requires.1,
@@ -22,7 +21,7 @@ overflow_add-result g c =
 pub returns-in-Some-clause-below : goal.returns-in-Some-clause-below
 returns-in-Some-clause-below g c =
     let b = g.met.Self.ReadWords in
-    let wide = c.width-width.ensures ∙ b.leaf_width in
+    let wide = c.word_width-width.ensures in
     omega (
       arith,
       ap (λ v. c.in-Some.k * v) wide,
@@ -36,7 +35,7 @@ returns-in-Some-clause-value g c =
     let b = g.met.Self.ReadWords in
     let w = g.Self.Shape.width in
     let s = set_in g.Self.Shape g.Self.Order.Endian c.args.self.now in
-    let wide : c.width-width.result ≡ w = c.width-width.ensures ∙ b.leaf_width in
+    let wide = c.word_width-width.ensures in
     let place = c.index_of_rank.ensures in
     rw wide (selected s (c.in-Some.k * w + c.index_of_rank.result) c.args.rank
     (omega (

@@ -16,12 +16,15 @@ pub overflow_add-count : goal.overflow_add-count
 overflow_add-count g c =
     let inside = word_inside g.B.Shape.width c.word_width.result c.capacity.result c.loop-k.k
     c.word_width.ensures c.loop-k-test.true in
+    let s = g.B.Shape.big c.args.bits.now in
+    let counted : members_below s (c.loop-k.k * g.B.Shape.width) + c.count_word-count.result
+    ≡ members_below s ((c.loop-k.k + 1) * g.B.Shape.width) = c.count_word-count.ensures in
     omega (
       arith,
       inside,
       c.loop-k.invariant,
-      c.count_word-count.ensures,
-      below_at_most (g.B.Shape.big c.args.bits.now) ((c.loop-k.k + 1) * g.B.Shape.width),
+      counted,
+      below_at_most s ((c.loop-k.k + 1) * g.B.Shape.width),
       c.capacity.ensures.value c.requires,
       c.requires.1,
     )
