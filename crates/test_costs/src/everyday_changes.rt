@@ -1,16 +1,17 @@
 //! Tests of the costs of everyday calls that change a set. A change of one bit reaches one word. If
 //! a call first searches for a bit, it fetches the words up to this bit.
 
-ghost use Rattle.std.specs.Prelude.{◌≤◌, IsTrue};
+ghost use Rattle.std.specs.Prelude.{◌≤◌};
+ghost use Rattle.bittle.specs.Values.{ShapeFits};
 
 use crate::asked::Asked;
-use crate::probe_rows::{Measured, costs, measure_rows};
-use bittle::{BitsOwned, LittleEndian};
+use crate::probe_rows::{Changing, change_rows, costs};
+use bittle::{BitsMut, LittleEndian};
 use bittle_ext::{BitsIndexMutExt, BitsMutExt, BitsMutViewExt};
 use std::process::Abort;
 
 // The calls that change the rows.
-#[derive(Drop)]
+#[derive(Clone, Copy)]
 enum Kind {
     OneBitTold,
     OneBit,
@@ -18,21 +19,12 @@ enum Kind {
     Ranges,
     Taken,
     Retained,
+    Cleared,
     Lists,
 }
 
-impl Measured for Kind {
-    fn measure<B: BitsOwned>(
-        self,
-        rt: &impl Abort,
-        few: B,
-        most: B,
-        _one: B,
-        _none: B,
-        _low: B,
-        _lower: B,
-        asked: &Asked,
-    ) {
+impl Changing for Kind {
+    fn change<B: BitsMut>(self, rt: &impl Abort, few: &mut B, most: &mut B, asked: &Asked) {
         match self {
             Kind::OneBitTold => change_one_bit(rt, few, asked),
             Kind::OneBit => assign_one_bit(rt, few, asked),
@@ -42,17 +34,15 @@ impl Measured for Kind {
                 take_members(rt, few, asked);
                 take_others(rt, most, asked);
             }
-            Kind::Retained => {
-                retain_some(rt, few, asked);
-                retain_none(rt, few, asked);
-            }
+            Kind::Retained => retain_some(rt, few, asked),
+            Kind::Cleared => retain_none(rt, few, asked),
             Kind::Lists => add_lists(rt, few, asked),
         }
     }
 }
 
-fn change_one_bit<B: BitsOwned>(rt: &impl Abort, mut few: B, asked: &Asked)
-    requires { IsTrue B.indexable }
+fn change_one_bit<B: BitsMut>(rt: &impl Abort, few: &mut B, asked: &Asked)
+    requires { ShapeFits B.Shape few.old }
 {
     costs!(rt; asked, few.insert(451), false, 1, 1);
     costs!(rt; asked, few.in_order_mut::<LittleEndian>().insert(451), false, 1, 1);
@@ -66,11 +56,11 @@ fn change_one_bit<B: BitsOwned>(rt: &impl Abort, mut few: B, asked: &Asked)
 
 #[test]
 fn a_change_of_one_bit_that_reports_it_reads_one_word_and_writes_it(rt: HostRuntime) {
-    measure_rows(&rt, Kind::OneBitTold);
+    change_rows(&rt, Kind::OneBitTold);
 }
 
-fn assign_one_bit<B: BitsOwned>(rt: &impl Abort, mut few: B, asked: &Asked)
-    requires { IsTrue B.indexable }
+fn assign_one_bit<B: BitsMut>(rt: &impl Abort, few: &mut B, asked: &Asked)
+    requires { ShapeFits B.Shape few.old }
 {
     costs!(rt; asked, few.assign(5, true), (), 0, 1);
     costs!(rt; asked, few.assign(5, false), (), 0, 1);
@@ -81,11 +71,11 @@ fn assign_one_bit<B: BitsOwned>(rt: &impl Abort, mut few: B, asked: &Asked)
 
 #[test]
 fn a_change_of_one_bit_that_reports_nothing_makes_one_call(rt: HostRuntime) {
-    measure_rows(&rt, Kind::OneBit);
+    change_rows(&rt, Kind::OneBit);
 }
 
-fn change_past_the_capacity<B: BitsOwned>(rt: &impl Abort, mut few: B, asked: &Asked)
-    requires { IsTrue B.indexable }
+fn change_past_the_capacity<B: BitsMut>(rt: &impl Abort, few: &mut B, asked: &Asked)
+    requires { ShapeFits B.Shape few.old }
 {
     costs!(rt; asked, few.try_set_bit(768), false, 0, 0);
     costs!(rt; asked, few.try_clear_bit(768), false, 0, 0);
@@ -95,13 +85,13 @@ fn change_past_the_capacity<B: BitsOwned>(rt: &impl Abort, mut few: B, asked: &A
 
 #[test]
 fn a_change_that_is_refused_asks_nothing(rt: HostRuntime) {
-    measure_rows(&rt, Kind::Refused);
+    change_rows(&rt, Kind::Refused);
 }
 
 // Indexes 100 to 199 lie in words 1, 2 and 3.
-fn change_ranges<B: BitsOwned>(rt: &impl Abort, mut few: B, asked: &Asked)
-    requires indexable { IsTrue B.indexable }
-    requires long { 200 ≤ B.type_capacity }
+fn change_ranges<B: BitsMut>(rt: &impl Abort, few: &mut B, asked: &Asked)
+    requires fits { ShapeFits B.Shape few.old }
+    requires long { 200 ≤ (B.big few.old).capacity }
 {
     costs!(rt; asked, few.set_range(100, 200), (), 0, 3);
     costs!(rt; asked, few.toggle_range(100, 200), (), 0, 3);
@@ -113,11 +103,11 @@ fn change_ranges<B: BitsOwned>(rt: &impl Abort, mut few: B, asked: &Asked)
 
 #[test]
 fn a_change_of_a_range_asks_each_element_of_it_once(rt: HostRuntime) {
-    measure_rows(&rt, Kind::Ranges);
+    change_rows(&rt, Kind::Ranges);
 }
 
-fn take_members<B: BitsOwned>(rt: &impl Abort, mut few: B, asked: &Asked)
-    requires { IsTrue B.indexable }
+fn take_members<B: BitsMut>(rt: &impl Abort, few: &mut B, asked: &Asked)
+    requires { ShapeFits B.Shape few.old }
 {
     costs!(rt; asked, few.pop_first(), Some(451), 9, 1);
     costs!(rt; asked, few.pop_last(), Some(508), 6, 1);
@@ -125,8 +115,8 @@ fn take_members<B: BitsOwned>(rt: &impl Abort, mut few: B, asked: &Asked)
     costs!(rt; asked, few.pop_last(), None, 12, 0);
 }
 
-fn take_others<B: BitsOwned>(rt: &impl Abort, mut most: B, asked: &Asked)
-    requires { IsTrue B.indexable }
+fn take_others<B: BitsMut>(rt: &impl Abort, most: &mut B, asked: &Asked)
+    requires { ShapeFits B.Shape most.old }
 {
     costs!(rt; asked, most.take_first_zero_run(1), Some(451), 8, 1);
     costs!(rt; asked, most.take_first_zero(), Some(508), 9, 1);
@@ -136,19 +126,19 @@ fn take_others<B: BitsOwned>(rt: &impl Abort, mut most: B, asked: &Asked)
 
 #[test]
 fn what_is_taken_is_searched_for_once_and_changed_once(rt: HostRuntime) {
-    measure_rows(&rt, Kind::Taken);
+    change_rows(&rt, Kind::Taken);
 }
 
 // Each word is fetched once. Word 7 is written once if `retain` clears one or both of its bits.
-fn retain_some<B: BitsOwned>(rt: &impl Abort, mut few: B, asked: &Asked)
-    requires { IsTrue B.indexable }
+fn retain_some<B: BitsMut>(rt: &impl Abort, few: &mut B, asked: &Asked)
+    requires { ShapeFits B.Shape few.old }
 {
     costs!(rt; asked, few.retain(|_| true), (), 12, 0);
     costs!(rt; asked, few.retain(|index| index > 500), (), 12, 1);
 }
 
-fn retain_none<B: BitsOwned>(rt: &impl Abort, mut few: B, asked: &Asked)
-    requires { IsTrue B.indexable }
+fn retain_none<B: BitsMut>(rt: &impl Abort, few: &mut B, asked: &Asked)
+    requires { ShapeFits B.Shape few.old }
 {
     costs!(rt; asked, few.retain(|_| false), (), 12, 1);
     costs!(rt; asked, few.retain(|_| false), (), 12, 0);
@@ -156,11 +146,12 @@ fn retain_none<B: BitsOwned>(rt: &impl Abort, mut few: B, asked: &Asked)
 
 #[test]
 fn retain_reads_each_word_once_and_writes_those_that_change(rt: HostRuntime) {
-    measure_rows(&rt, Kind::Retained);
+    change_rows(&rt, Kind::Retained);
+    change_rows(&rt, Kind::Cleared);
 }
 
-fn add_lists<B: BitsOwned>(rt: &impl Abort, mut few: B, asked: &Asked)
-    requires { IsTrue B.indexable }
+fn add_lists<B: BitsMut>(rt: &impl Abort, few: &mut B, asked: &Asked)
+    requires { ShapeFits B.Shape few.old }
 {
     costs!(rt; asked, few.insert_all(&[1, 65, 1]), (), 0, 3);
     costs!(rt; asked, few.extend([2u32, 66]), (), 0, 2);
@@ -168,5 +159,5 @@ fn add_lists<B: BitsOwned>(rt: &impl Abort, mut few: B, asked: &Asked)
 
 #[test]
 fn a_list_of_indexes_makes_one_call_for_each(rt: HostRuntime) {
-    measure_rows(&rt, Kind::Lists);
+    change_rows(&rt, Kind::Lists);
 }

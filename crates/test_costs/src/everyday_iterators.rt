@@ -4,14 +4,14 @@
 ghost use Rattle.bittle.specs.Values.{ShapeFits};
 
 use crate::asked::Asked;
-use crate::probe_rows::{Measured, costs, measure_rows};
+use crate::probe_rows::{Reading, costs, read_rows};
 use crate::walked::{count, count_back, count_owned, count_owned_back};
-use bittle::{Bits, BitsOwned, LittleEndian, Shape};
+use bittle::{Bits, LittleEndian, Shape};
 use bittle_ext::{BitsExt, BitsRangeExt, BitsViewExt};
 use std::process::Abort;
 
 // The iterators or views that read the rows.
-#[derive(Drop)]
+#[derive(Clone, Copy)]
 enum Walk {
     Ranges,
     Runs,
@@ -20,34 +20,34 @@ enum Walk {
     TwoSets,
 }
 
-impl Measured for Walk {
-    fn measure<B: BitsOwned>(
+impl Reading for Walk {
+    fn read<B: Bits>(
         self,
         rt: &impl Abort,
-        few: B,
-        most: B,
-        one: B,
-        _none: B,
-        _low: B,
-        _lower: B,
+        few: &B,
+        most: &B,
+        one: &B,
+        _none: &B,
+        _low: &B,
+        _lower: &B,
         asked: &Asked,
     ) {
         match self {
             Walk::Ranges => {
-                iterate_over_ones_of_ranges(rt, &few, asked);
-                iterate_over_zeros_of_ranges(rt, &most, asked);
+                iterate_over_ones_of_ranges(rt, few, asked);
+                iterate_over_zeros_of_ranges(rt, most, asked);
             }
-            Walk::Runs => iterate_over_runs(rt, &few, &most, asked),
+            Walk::Runs => iterate_over_runs(rt, few, most, asked),
             Walk::OneSet => {
-                view_in_order(rt, &few, asked);
-                view_complement(rt, &few, asked);
+                view_in_order(rt, few, asked);
+                view_complement(rt, few, asked);
             }
-            Walk::RangeViews => view_ranges(rt, &few, asked),
+            Walk::RangeViews => view_ranges(rt, few, asked),
             Walk::TwoSets => {
-                view_conjunction(rt, &few, &one, asked);
-                view_difference(rt, &few, &one, asked);
-                view_union(rt, &few, &one, asked);
-                view_symmetric_difference(rt, &few, &one, asked);
+                view_conjunction(rt, few, one, asked);
+                view_difference(rt, few, one, asked);
+                view_union(rt, few, one, asked);
+                view_symmetric_difference(rt, few, one, asked);
             }
         }
     }
@@ -72,7 +72,7 @@ fn iterate_over_zeros_of_ranges<B: Bits>(rt: &impl Abort, most: &B, asked: &Aske
 
 #[test]
 fn an_iterator_over_a_range_fetches_each_word_of_it_once(rt: HostRuntime) {
-    measure_rows(&rt, Walk::Ranges);
+    read_rows(&rt, Walk::Ranges);
 }
 
 // Each of the iterators fetches 23 words. It fetches each of the twelve for the edges in that word,
@@ -89,7 +89,7 @@ fn iterate_over_runs<B: Bits>(rt: &impl Abort, few: &B, most: &B, asked: &Asked)
 
 #[test]
 fn an_iterator_over_runs_fetches_no_word_three_times(rt: HostRuntime) {
-    measure_rows(&rt, Walk::Runs);
+    read_rows(&rt, Walk::Runs);
 }
 
 // Reads a view of a set in the order `LittleEndian`.
@@ -111,7 +111,7 @@ fn view_complement<B: Bits>(rt: &impl Abort, few: &B, asked: &Asked)
 
 #[test]
 fn a_view_asks_what_a_call_on_its_set_asks(rt: HostRuntime) {
-    measure_rows(&rt, Walk::OneSet);
+    read_rows(&rt, Walk::OneSet);
 }
 
 // A search may fetch one word outside of the range: word 0 or the last word. If it finds no bit in the
@@ -131,7 +131,7 @@ fn view_ranges<B: Bits>(rt: &impl Abort, few: &B, asked: &Asked)
 
 #[test]
 fn a_view_of_a_range_fetches_the_words_of_the_range(rt: HostRuntime) {
-    measure_rows(&rt, Walk::RangeViews);
+    read_rows(&rt, Walk::RangeViews);
 }
 
 // Reads a view of the intersection of two sets.
@@ -179,5 +179,5 @@ fn view_symmetric_difference<A: Bits, B: Bits + Shape<LeafWord = A::LeafWord>>(
 
 #[test]
 fn a_view_of_two_sets_of_like_words_fetches_each_word_of_both_once(rt: HostRuntime) {
-    measure_rows(&rt, Walk::TwoSets);
+    read_rows(&rt, Walk::TwoSets);
 }

@@ -6,13 +6,13 @@
 ghost use Rattle.bittle.specs.Values.{ShapeFits};
 
 use crate::asked::Asked;
-use crate::probe_rows::{Measured, costs, measure_rows};
-use bittle::{Bits, BitsOwned, LittleEndian};
+use crate::probe_rows::{Reading, costs, read_rows};
+use bittle::{Bits, LittleEndian};
 use bittle_ext::{BitsRelationExt, BitsViewExt};
 use std::process::Abort;
 
 // The pair of sets that is read, and the calls that read it.
-#[derive(Drop)]
+#[derive(Clone, Copy)]
 enum Pair {
     Meet,
     Agree,
@@ -21,24 +21,24 @@ enum Pair {
     TwoOrders,
 }
 
-impl Measured for Pair {
-    fn measure<B: BitsOwned>(
+impl Reading for Pair {
+    fn read<B: Bits>(
         self,
         rt: &impl Abort,
-        few: B,
-        _most: B,
-        one: B,
-        none: B,
-        low: B,
-        lower: B,
+        few: &B,
+        _most: &B,
+        one: &B,
+        none: &B,
+        low: &B,
+        lower: &B,
         asked: &Asked,
     ) {
         match self {
-            Pair::Meet => relate_those_that_meet(rt, &few, &few, &none, asked),
-            Pair::Agree => relate_those_that_agree(rt, &few, &few, &none, asked),
-            Pair::FirstWord => relate_by_the_first_word(rt, &low, &lower, asked),
-            Pair::Counted => count_two_sets(rt, &few, &one, asked),
-            Pair::TwoOrders => relate_in_two_orders(rt, &few, &few, asked),
+            Pair::Meet => relate_those_that_meet(rt, few, few, none, asked),
+            Pair::Agree => relate_those_that_agree(rt, few, few, none, asked),
+            Pair::FirstWord => relate_by_the_first_word(rt, low, lower, asked),
+            Pair::Counted => count_two_sets(rt, few, one, asked),
+            Pair::TwoOrders => relate_in_two_orders(rt, few, few, asked),
         }
     }
 }
@@ -59,7 +59,7 @@ fn relate_those_that_meet<B: Bits>(rt: &impl Abort, left: &B, right: &B, none: &
 
 #[test]
 fn relations_of_like_words_fetch_both_up_to_the_four_words_that_decide(rt: HostRuntime) {
-    measure_rows(&rt, Pair::Meet);
+    read_rows(&rt, Pair::Meet);
 }
 
 fn relate_those_that_agree<B: Bits>(rt: &impl Abort, left: &B, right: &B, none: &B, asked: &Asked)
@@ -77,7 +77,7 @@ fn relate_those_that_agree<B: Bits>(rt: &impl Abort, left: &B, right: &B, none: 
 
 #[test]
 fn relations_of_like_words_that_nothing_decides_fetch_both_once(rt: HostRuntime) {
-    measure_rows(&rt, Pair::Agree);
+    read_rows(&rt, Pair::Agree);
 }
 
 fn relate_by_the_first_word<B: Bits>(rt: &impl Abort, left: &B, right: &B, asked: &Asked)
@@ -94,7 +94,7 @@ fn relate_by_the_first_word<B: Bits>(rt: &impl Abort, left: &B, right: &B, asked
 
 #[test]
 fn relations_that_the_first_word_decides_fetch_four_words_of_both_and_it_again(rt: HostRuntime) {
-    measure_rows(&rt, Pair::FirstWord);
+    read_rows(&rt, Pair::FirstWord);
 }
 
 // The bits are counted in each word that an operation makes of two words. So `count_ones` of an
@@ -110,7 +110,7 @@ fn count_two_sets<B: Bits>(rt: &impl Abort, left: &B, right: &B, asked: &Asked)
 
 #[test]
 fn counts_of_like_words_fetch_both_once(rt: HostRuntime) {
-    measure_rows(&rt, Pair::Counted);
+    read_rows(&rt, Pair::Counted);
 }
 
 // In the order `LittleEndian` the members are 451 and 508 too, since the order swaps bits 3 and 60
@@ -126,5 +126,5 @@ fn relate_in_two_orders<B: Bits>(rt: &impl Abort, left: &B, right: &B, asked: &A
 
 #[test]
 fn relations_in_two_orders_search_from_item_to_item(rt: HostRuntime) {
-    measure_rows(&rt, Pair::TwoOrders);
+    read_rows(&rt, Pair::TwoOrders);
 }

@@ -4,14 +4,14 @@
 ghost use Rattle.bittle.specs.Values.{ShapeFits};
 
 use crate::asked::Asked;
-use crate::probe_rows::{Measured, costs, measure_rows};
+use crate::probe_rows::{Reading, costs, read_rows};
 use crate::walked::count_owned;
-use bittle::{Bits, BitsOwned};
+use bittle::Bits;
 use bittle_ext::{BitsExt, BitsIndexExt, BitsRankExt, BitsSpanExt};
 use std::process::Abort;
 
 // The calls that read the rows.
-#[derive(Drop)]
+#[derive(Clone, Copy)]
 enum Question {
     Ends,
     Neighbours,
@@ -24,31 +24,31 @@ enum Question {
     OneBit,
 }
 
-impl Measured for Question {
-    fn measure<B: BitsOwned>(
+impl Reading for Question {
+    fn read<B: Bits>(
         self,
         rt: &impl Abort,
-        few: B,
-        most: B,
-        _one: B,
-        _none: B,
-        low: B,
-        _lower: B,
+        few: &B,
+        most: &B,
+        _one: &B,
+        _none: &B,
+        low: &B,
+        _lower: &B,
         asked: &Asked,
     ) {
         match self {
-            Question::Ends => ask_for_ends(rt, &few, &most, asked),
-            Question::Neighbours => ask_for_neighbours(rt, &few, &most, asked),
-            Question::Ranges => count_ranges(rt, &few, asked),
-            Question::Spans => count_spans(rt, &few, asked),
-            Question::AnyAndAll => question_ranges(rt, &few, &most, asked),
-            Question::Select => select_two(rt, &few, &low, asked),
+            Question::Ends => ask_for_ends(rt, few, most, asked),
+            Question::Neighbours => ask_for_neighbours(rt, few, most, asked),
+            Question::Ranges => count_ranges(rt, few, asked),
+            Question::Spans => count_spans(rt, few, asked),
+            Question::AnyAndAll => question_ranges(rt, few, most, asked),
+            Question::Select => select_two(rt, few, low, asked),
             Question::Runs => {
-                search_for_runs_of_ones(rt, &few, asked);
-                search_for_runs_of_zeros(rt, &most, &few, asked);
+                search_for_runs_of_ones(rt, few, asked);
+                search_for_runs_of_zeros(rt, most, few, asked);
             }
-            Question::LongerRuns => search_for_longer_runs(rt, &few, asked),
-            Question::OneBit => ask_for_one_bit(rt, &few, asked),
+            Question::LongerRuns => search_for_longer_runs(rt, few, asked),
+            Question::OneBit => ask_for_one_bit(rt, few, asked),
         }
     }
 }
@@ -65,7 +65,7 @@ fn ask_for_ends<B: Bits>(rt: &impl Abort, few: &B, most: &B, asked: &Asked)
 
 #[test]
 fn ends_fetch_the_words_up_to_the_answer(rt: HostRuntime) {
-    measure_rows(&rt, Question::Ends);
+    read_rows(&rt, Question::Ends);
 }
 
 fn ask_for_neighbours<B: Bits>(rt: &impl Abort, few: &B, most: &B, asked: &Asked)
@@ -82,7 +82,7 @@ fn ask_for_neighbours<B: Bits>(rt: &impl Abort, few: &B, most: &B, asked: &Asked
 
 #[test]
 fn neighbours_fetch_the_words_up_to_the_answer(rt: HostRuntime) {
-    measure_rows(&rt, Question::Neighbours);
+    read_rows(&rt, Question::Neighbours);
 }
 
 fn count_ranges<B: Bits>(rt: &impl Abort, few: &B, asked: &Asked)
@@ -98,7 +98,7 @@ fn count_ranges<B: Bits>(rt: &impl Abort, few: &B, asked: &Asked)
 
 #[test]
 fn counts_of_a_range_fetch_its_words_once(rt: HostRuntime) {
-    measure_rows(&rt, Question::Ranges);
+    read_rows(&rt, Question::Ranges);
 }
 
 fn count_spans<B: Bits>(rt: &impl Abort, few: &B, asked: &Asked)
@@ -114,7 +114,7 @@ fn count_spans<B: Bits>(rt: &impl Abort, few: &B, asked: &Asked)
 
 #[test]
 fn a_range_as_rust_writes_it_costs_what_its_two_numbers_cost(rt: HostRuntime) {
-    measure_rows(&rt, Question::Spans);
+    read_rows(&rt, Question::Spans);
 }
 
 fn question_ranges<B: Bits>(rt: &impl Abort, few: &B, most: &B, asked: &Asked)
@@ -129,7 +129,7 @@ fn question_ranges<B: Bits>(rt: &impl Abort, few: &B, most: &B, asked: &Asked)
 
 #[test]
 fn questions_about_a_range_fetch_up_to_the_answer(rt: HostRuntime) {
-    measure_rows(&rt, Question::AnyAndAll);
+    read_rows(&rt, Question::AnyAndAll);
 }
 
 fn select_two<B: Bits>(rt: &impl Abort, few: &B, many: &B, asked: &Asked)
@@ -144,7 +144,7 @@ fn select_two<B: Bits>(rt: &impl Abort, few: &B, many: &B, asked: &Asked)
 
 #[test]
 fn select_fetches_up_to_its_word_and_then_that_word_again(rt: HostRuntime) {
-    measure_rows(&rt, Question::Select);
+    read_rows(&rt, Question::Select);
 }
 
 // No call fetches a word twice. A search from index 0 fetches eight words up to bit 451, or all
@@ -179,7 +179,7 @@ fn search_for_runs_of_zeros<B: Bits>(rt: &impl Abort, most: &B, few: &B, asked: 
 
 #[test]
 fn runs_of_up_to_four_words_fetch_each_word_once(rt: HostRuntime) {
-    measure_rows(&rt, Question::Runs);
+    read_rows(&rt, Question::Runs);
 }
 
 // A search from the front finds where a run may begin. Then a search from the back finds whether a
@@ -202,7 +202,7 @@ fn search_for_longer_runs<B: Bits>(rt: &impl Abort, few: &B, asked: &Asked)
 
 #[test]
 fn longer_runs_fetch_twice_for_each_shorter_run(rt: HostRuntime) {
-    measure_rows(&rt, Question::LongerRuns);
+    read_rows(&rt, Question::LongerRuns);
 }
 
 fn ask_for_one_bit<B: Bits>(rt: &impl Abort, few: &B, asked: &Asked)
@@ -216,5 +216,5 @@ fn ask_for_one_bit<B: Bits>(rt: &impl Abort, few: &B, asked: &Asked)
 
 #[test]
 fn an_index_that_does_not_wrap_asks_for_one_bit_or_nothing(rt: HostRuntime) {
-    measure_rows(&rt, Question::OneBit);
+    read_rows(&rt, Question::OneBit);
 }

@@ -1,14 +1,17 @@
 //! Rows of twelve words that count the calls made to them, and checks of what one call costs.
 //!
-//! The measured calls are written for any owned set, so each is proved once. The tests make them on
-//! the rows of `measure_rows`. Most tests use `few`: its members 451 and 508 lie in word 7.
+//! The measured calls are written for any set, so each is proved once. The tests make them on the
+//! rows of `measure_rows`, `read_rows` and `change_rows`. Most tests use `few`: its members 451 and 508 lie in
+//! word 7.
 
-ghost use Rattle.std.specs.Prelude.{◌*◌, ◌≤◌, IsTrue};
+ghost use Rattle.std.specs.Prelude.{◌*◌, ◌≤◌, length, IsTrue};
+ghost use Rattle.bittle.specs.Shapes.{Fits};
+ghost use Rattle.bittle.specs.Values.{ShapeFits};
 
 use crate::asked::Asked;
 use crate::checks::Compared;
 use crate::word_probe::WordProbe;
-use bittle::{BitsOwned, Shape};
+use bittle::{Bits, BitsMut, BitsOwned, Shape};
 use std::process::Abort;
 
 /// Calls whose costs are measured.
@@ -65,6 +68,81 @@ pub(crate) fn measure_rows<M: Measured>(rt: &impl Abort, calls: M) {
         row_of(3, TWO, &asked),
         &asked,
     );
+}
+
+/// Calls that read sets. Their costs are measured on arrays and on slices.
+pub(crate) trait Reading: Copy {
+    /// Makes the calls on the sets that [`measure`](Measured::measure) describes.
+    fn read<B: Bits>(
+        self,
+        rt: &impl Abort,
+        few: &B,
+        most: &B,
+        one: &B,
+        none: &B,
+        low: &B,
+        lower: &B,
+        asked: &Asked,
+    )
+        requires few { ShapeFits B.Shape few.now }
+        requires most { ShapeFits B.Shape most.now }
+        requires one { ShapeFits B.Shape one.now }
+        requires none { ShapeFits B.Shape none.now }
+        requires low { ShapeFits B.Shape low.now }
+        requires lower { ShapeFits B.Shape lower.now };
+}
+
+// Makes the calls on slices.
+fn read_slices<'a, R: Reading, T: BitsOwned>(
+    rt: &impl Abort,
+    calls: R,
+    few: &'a [T],
+    most: &'a [T],
+    one: &'a [T],
+    none: &'a [T],
+    low: &'a [T],
+    lower: &'a [T],
+    asked: &Asked,
+)
+    requires few { Fits T.indexable (length few.now * T.type_capacity) }
+    requires most { Fits T.indexable (length most.now * T.type_capacity) }
+    requires one { Fits T.indexable (length one.now * T.type_capacity) }
+    requires none { Fits T.indexable (length none.now * T.type_capacity) }
+    requires low { Fits T.indexable (length low.now * T.type_capacity) }
+    requires lower { Fits T.indexable (length lower.now * T.type_capacity) }
+{
+    calls.read(rt, &few, &most, &one, &none, &low, &lower, asked);
+}
+
+/// Measures calls on the six rows that [`measure`](Measured::measure) describes: on the arrays, and
+/// on slices of them.
+pub(crate) fn read_rows<R: Reading>(rt: &impl Abort, calls: R) {
+    let asked = Asked::new();
+    let (few, most) = (row_of(0, TWO, &asked), row_of(!0, !TWO, &asked));
+    let (one, none) = (row_of(0, 8, &asked), row_of(0, 0, &asked));
+    let (low, lower) = (row_of(1, TWO, &asked), row_of(3, TWO, &asked));
+    calls.read(rt, &few, &most, &one, &none, &low, &lower, &asked);
+    read_slices(rt, calls, &few, &most, &one, &none, &low, &lower, &asked);
+}
+
+/// Calls that change sets. Their costs are measured on arrays and on slices.
+pub(crate) trait Changing: Copy {
+    /// Makes the calls on `few` and `most`, which [`measure`](Measured::measure) describes.
+    fn change<B: BitsMut>(self, rt: &impl Abort, few: &mut B, most: &mut B, asked: &Asked)
+        requires few { ShapeFits B.Shape few.old }
+        requires most { ShapeFits B.Shape most.old }
+        requires long { 768 ≤ (B.big few.old).capacity };
+}
+
+/// Measures calls on rows like `few` and `most` of [`measure`](Measured::measure): on arrays, and
+/// on slices of such arrays.
+pub(crate) fn change_rows<C: Changing>(rt: &impl Abort, calls: C) {
+    let asked = Asked::new();
+    let (mut few, mut most) = (row_of(0, TWO, &asked), row_of(!0, !TWO, &asked));
+    calls.change(rt, &mut few, &mut most, &asked);
+    let (mut few, mut most) = (row_of(0, TWO, &asked), row_of(!0, !TWO, &asked));
+    let (mut few, mut most) = (few.as_mut_slice(), most.as_mut_slice());
+    calls.change(rt, &mut few, &mut most, &asked);
 }
 
 /// A row of twelve words. Each word has 64 bits, so the capacity of the row is 768.
