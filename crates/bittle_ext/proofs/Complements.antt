@@ -1,9 +1,10 @@
 -- The complement of a set.
-use Rattle.std.proofs.Common.{◌≡◌, ℕ, ◌≤◌, false, not, inl, inr, refl, ap, ◌∙◌, arith}
+use Rattle.std.proofs.Common.{◌≡◌, ℕ, ◌+◌, ◌≤◌, ◌==◌, false, not, inl, inr, refl, sym, ap, ◌∙◌, arith}
 use Rattle.std.proofs.Math.Path.{fun_ext}
-use Rattle.std.proofs.lemmas.Bool.{cases_lt, lt-ltb, le-ltb}
-use Rattle.bittle.specs.PlainSet.{PlainSet, complement, lacks, with_span_toggled}
+use Rattle.std.proofs.lemmas.Bool.{cases_Bool, cases_lt, lt-ltb, le-ltb, eq-eqb, eqb-true, true≢false}
+use Rattle.bittle.specs.PlainSet.{PlainSet, complement, lacks, size, with_span_toggled}
 use Rattle.bittle_bits.proofs.PlainSets.{plain_set}
+use Rattle.bittle_bits.proofs.Sizes.{size-complement}
 use Rattle.bittle_bits.proofs.Spans.{inside_span, outside_span}
 
 -- to toggle each index below the capacity makes a set its complement
@@ -17,3 +18,25 @@ all_toggled s c is past =
       | inr g ↦ outside_span not s 0 c k (inr (omega (arith, is)))
           ∙ rw (le-ltb k s.capacity g) (past k g)
     ])
+
+-- two tests of numbers are alike if each implies the other
+tests_alike : (a b c d : ℕ) → (a ≡ b → c ≡ d) → (c ≡ d → a ≡ b) → (a == b) ≡ (c == d)
+tests_alike a b c d to from = elim (cases_Bool (a == b)) [
+  | inl is ↦ is ∙ sym (eq-eqb c d (to (eqb-true a b is)))
+  | inr differs ↦ elim (cases_Bool (c == d)) [
+    | inl same ↦ absurd (true≢false (sym (eq-eqb a b (from (eqb-true c d same))) ∙ differs))
+    | inr apart ↦ differs ∙ sym apart
+  ]
+]
+
+-- a set is full exactly if its complement is empty
+pub full_or_missing : (s : PlainSet) → (size s == s.capacity) ≡ (size (complement s) == 0)
+full_or_missing s =
+    let all = size-complement s in
+    tests_alike _ _ _ _ (λ e. omega (arith, e, all)) (λ e. omega (arith, e, all))
+
+-- a set is empty exactly if its complement is full
+pub empty_or_full : (s : PlainSet) → (size s == 0) ≡ (size (complement s) == s.capacity)
+empty_or_full s =
+    let all = size-complement s in
+    tests_alike _ _ _ _ (λ e. omega (arith, e, all)) (λ e. omega (arith, e, all))

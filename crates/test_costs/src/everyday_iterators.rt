@@ -105,7 +105,7 @@ fn view_complement<B: Bits>(rt: &impl Abort, few: &B, asked: &Asked)
     requires { ShapeFits B.Shape few.now }
 {
     costs!(rt; asked, few.complement_view().first_zero(), Some(451), 8, 0);
-    costs!(rt; asked, few.complement_view().count_ones(), 766, 12, 0);
+    costs!(rt; asked, few.complement_view().count_ones(), 766, 0, 12);
     costs!(rt; asked, count(few.complement_view().iter_zeros()), 2, 12, 0);
 }
 

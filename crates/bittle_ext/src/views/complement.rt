@@ -5,7 +5,7 @@ ghost use Rattle.bittle_ext.specs.ViewLaws.{none_past_complement};
 ghost use Rattle.bittle.specs.PlainSet.{complement};
 ghost use Rattle.bittle.specs.Values.{set_in, ShapeFits};
 
-use crate::views::by_words::{count, is_empty, is_full, test};
+use crate::views::by_words::test;
 use bittle::{Bits, Endian, Shape};
 use bittle_bits::extension::{End, Kind, Ones, ReadWords, Sealed, Zeros, word_of_kind};
 use std::alloc::AllocError;
@@ -87,17 +87,17 @@ impl<'a, B: Bits> Bits for Complement<'a, B> {
 
     #[inline]
     fn count_ones(&self) -> u32 {
-        count::<Complement<'a, B>>(self)
+        self.set.count_zeros()
     }
 
     #[inline]
     fn all_zeros(&self) -> bool {
-        is_empty::<Complement<'a, B>>(self)
+        self.set.all_ones()
     }
 
     #[inline]
     fn all_ones(&self) -> bool {
-        is_full::<Complement<'a, B>>(self)
+        self.set.all_zeros()
     }
 
     #[inline]

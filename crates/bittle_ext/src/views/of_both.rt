@@ -34,8 +34,8 @@ pub type XorView<'a, A, B, E, F> = OfBoth<'a, A, B, E, F, SymmetricDifference>;
 
 /// An operation on two sets whose result a view shows.
 pub trait ViewOperation: Operation {
-    /// Returns `true` if every set bit of the result is set in the first set too. This decides how
-    /// the words of the first set are read.
+    /// Returns `true` only if every set bit of the result is set in the first set too. This decides
+    /// how the words of the first set are read.
     #[doc(hidden)]
     #[inline(always)]
     fn keeps_to_first() -> bool
@@ -44,8 +44,8 @@ pub trait ViewOperation: Operation {
         false
     }
 
-    /// Returns `true` if every set bit of the result is set in the second set too. This decides
-    /// which words are skipped.
+    /// Returns `true` only if every set bit of the result is set in the second set too. This
+    /// decides which words are skipped.
     #[doc(hidden)]
     #[inline(always)]
     fn keeps_to_second() -> bool
@@ -257,7 +257,7 @@ impl<'a, A: ReadWords, B: ReadWords, E: Endian, F: Endian, O: ViewOperation, R: 
         K::ONES
             && word_width::<A>() == word_width::<B>()
             && A::tells_groups::<Ones>()
-            && B::tells_groups::<Ones>()
+            && (O::keeps_to_first() && !O::keeps_to_second() || B::tells_groups::<Ones>())
     }
 
     #[inline(always)]

@@ -1,0 +1,16 @@
+use Rattle.std.proofs.Common.{◌∙◌, ◌==◌}
+use Rattle.bittle.specs.PlainSet.{complement}
+use Rattle.bittle_bits.proofs.Sizes.{size_in_each_order}
+use Rattle.bittle_ext.proofs.Complements.{full_or_missing}
+use Rattle.bittle_ext.proofs.views.complement.ComplementBits.all_zeros.Goals as goal
+
+pub returns-clause-value : goal.returns-clause-value
+returns-clause-value g c =
+    c.all_ones.ensures.value ∙ full_or_missing (g.B.Shape.big c.args.self.now.set.now)
+
+pub returns-clause-in_each_order : goal.returns-clause-in_each_order
+returns-clause-in_each_order g c =
+    let v = c.args.self.now.set.now in
+    let s = g.B.Shape.big v in
+    size_in_each_order _ (complement s) (λ n. n == 0) _ g.met.B.ReadWords.width_positive
+    (g.met.B.ReadWords.whole_words v) (returns-clause-value g c)

@@ -1,0 +1,17 @@
+use Rattle.std.proofs.Common.{arith}
+use Rattle.bittle.specs.PlainSet.{complement}
+use Rattle.bittle_bits.proofs.Sizes.{size-complement, size_in_each_order}
+use Rattle.bittle_ext.proofs.views.complement.ComplementBits.count_ones.Goals as goal
+
+pub returns-clause-value : goal.returns-clause-value
+returns-clause-value g c = omega (
+  arith,
+  c.count_zeros.ensures.value,
+  size-complement (g.B.Shape.big c.args.self.now.set.now),
+)
+
+pub returns-clause-in_each_order : goal.returns-clause-in_each_order
+returns-clause-in_each_order g c =
+    let v = c.args.self.now.set.now in
+    size_in_each_order _ (complement (g.B.Shape.big v)) (λ n. n) _
+    g.met.B.ReadWords.width_positive (g.met.B.ReadWords.whole_words v) (returns-clause-value g c)
