@@ -38,13 +38,23 @@ more_members s t same all i low differs =
     ] in
     rw same (omega (arith, (all_numbers n t.has s.has).0, all_common s t all, some))
 
--- an operation that removes no member, and changes a set, makes it grow
-pub grows : (f : Bool → Bool → Bool) (s t u : PlainSet) →
-    ((a b : Bool) → a ≡ true → f a b ≡ true) → u ≡ combined f s t → Differ s u →
-    size s < size u
-grows f s t u keeps is differ =
-    more_members s u (ap (λ v. v.capacity) is) (λ k l h. ap (λ v. v.has k) is
-    ∙ combined_below f s t k l ∙ keeps (s.has k) (t.has k) h) differ.0 differ.1 differ.2
+module _ (f : Bool → Bool → Bool) (s t u : PlainSet) (keeps : (a b : Bool) → a ≡ true →
+    f a b ≡ true) (is : u ≡ combined f s t) where
+  -- a set that an operation makes, which removes no member, has each member of the first set
+  keeps_first : Implies s.capacity s.has u.has
+  keeps_first k l h =
+      ap (λ v. v.has k) is ∙ combined_below f s t k l ∙ keeps (s.has k) (t.has k) h
+
+  -- so u has at least as many members as s
+  pub never_shrinks : size s ≤ size u
+  never_shrinks =
+      let same : u.capacity ≡ s.capacity = ap (λ v. v.capacity) is in
+      rw same (omega (arith, (all_numbers s.capacity u.has s.has).0, all_common s u keeps_first))
+
+  -- u has more members if it differs from s
+  pub grows : Differ s u → size s < size u
+  grows differ =
+      more_members s u (ap (λ v. v.capacity) is) keeps_first differ.0 differ.1 differ.2
 
 module _ (f : Bool → Bool → Bool) (s t u : PlainSet) (brings : (a b : Bool) → f a b ≡ true →
     a ≡ true) (is : u ≡ combined f s t) where

@@ -29,6 +29,7 @@ mod RetainSteps
 mod ReversedBits
 mod RetainedWords
 mod RotatedSets
+mod RotatedSizes
 pub mod RunCounts
 mod ShiftedWords
 mod WholeWords

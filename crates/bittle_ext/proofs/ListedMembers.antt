@@ -2,12 +2,13 @@
 -- of a list.
 use Rattle.std.proofs.Common.{◌≡◌, ◌==◌, ◌||◌, ℕ, ◌+◌, ◌<◌, ◌≤◌, true, List, [], ◌∷◌, length, All, inl, inr, refl, sym, ap, ◌∙◌, subst, arith}
 use Rattle.std.specs.List.{fold}
-use Rattle.std.proofs.lemmas.Bool.{cases_Bool, eqb-true}
+use Rattle.std.proofs.lemmas.Bool.{cases_Bool, cases_lt, eqb-true}
 use Rattle.std.proofs.lemmas.List.Elements.{All-nil, All-cons, All-head, All-tail}
 use Rattle.bittle.specs.PlainSet.{PlainSet, ascending, contains, size, with_index}
 use Rattle.bittle.proofs.CallerChanges.{contains_after_set, still_set_after_set}
 use Rattle.bittle_ext.proofs.CallerMembers.{has_with_index, size_after_set}
 use Rattle.bittle_bits.proofs.AscendingLists as lists
+use Rattle.bittle_bits.proofs.Sizes.{size-le}
 
 -- the length of the increasing list of the members is the size of the set
 pub ascending_length : (s : PlainSet) → length (ascending s) ≡ size s
@@ -63,15 +64,15 @@ each_after_all P s t xs is below items members k has =
 
 -- after each index of a list was set, a set has at most as many more members as the list has items
 pub size_after_all : (s t : PlainSet) (xs : List ℕ) → t ≡ fold with_index s xs →
-    0 < s.capacity → size t ≤ size s + length xs
-size_after_all s t xs is some = omega (arith, ap size is, each_adds xs s some)
+    size t ≤ size s + length xs
+size_after_all s t xs is = omega (arith, ap size is, each_adds xs s)
   where
-    each_adds : (xs : List ℕ) (s : PlainSet) → 0 < s.capacity →
-        size (fold with_index s xs) ≤ size s + length xs
-    each_adds [] s some = omega arith
-    each_adds (x ∷ xs) s some =
-        omega (
-          arith,
-          each_adds xs (with_index s x) some,
-          size_after_set s (with_index s x) x refl some,
-        )
+    one_more : (s : PlainSet) (x : ℕ) → size (with_index s x) ≤ size s + 1
+    one_more s x = elim (cases_lt 0 s.capacity) [
+      | inl some ↦ size_after_set s (with_index s x) x refl some
+      | inr none ↦ omega (arith, none, size-le (with_index s x))
+    ]
+
+    each_adds : (xs : List ℕ) (s : PlainSet) → size (fold with_index s xs) ≤ size s + length xs
+    each_adds [] s = omega arith
+    each_adds (x ∷ xs) s = omega (arith, each_adds xs (with_index s x), one_more s x)

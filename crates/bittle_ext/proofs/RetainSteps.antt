@@ -1,13 +1,13 @@
 -- The state of `retain` between calls of its closure: the members asked so far, and those that it
 -- keeps.
-use Rattle.std.proofs.Common.{◌≡◌, ℕ, suc, ◌+◌, ◌-◌, ◌<◌, ◌≤◌, Bool, true, false, not, ◌&&◌, cond, List, [], ◌∷◌, ◌++◌, append_assoc, append-nil, Some, refl, sym, ap, ◌∙◌, subst, arith}
+use Rattle.std.proofs.Common.{◌≡◌, ℕ, suc, ◌+◌, ◌-◌, ◌<◌, ◌≤◌, Bool, true, false, not, ◌&&◌, cond, List, [], ◌∷◌, ◌++◌, append_assoc, append-nil, length, Some, refl, sym, ap, ◌∙◌, subst, arith}
 use Rattle.std.specs.List.{items_where_true}
 use Rattle.std.specs.List.Retain.{IsFiltered}
 use Rattle.std.proofs.lemmas.Bool.{ne_eqb, eq-eqb}
-use Rattle.bittle.specs.PlainSet.{PlainSet, ascending, ascending_from, without_index}
+use Rattle.bittle.specs.PlainSet.{PlainSet, ascending, ascending_from, size, without_index}
 use Rattle.bittle.specs.Searches.{IsFirstIn, NoneIn}
 use Rattle.bittle.proofs.CallerSets.{without_index_within}
-use Rattle.bittle_bits.proofs.AscendingLists.{ascending_from-zero, ascending_from-add, ascending_from-same, ascending_from-none, ascending-yes, ascending-no}
+use Rattle.bittle_bits.proofs.AscendingLists.{ascending-length, ascending_from-zero, ascending_from-add, ascending_from-same, ascending_from-none, ascending-yes, ascending-no}
 use Rattle.bittle_bits.proofs.FirstItems.{ascending_from-least}
 use Rattle.bittle_ext.specs.Changes.{Retains}
 use Rattle.bittle_ext.proofs.PassingMembers.{kept_by_test}
@@ -54,6 +54,23 @@ module _ {F : Type 0} (R : F → ℕ → Bool → F → Type 0) where
       kept : (b : Bool) → cond b (i ∷ ys) ys ≡ items_where_true (b ∷ rest.0) (i ∷ xs)
       kept true = ap (λ zs. i ∷ zs) rest.4
       kept false = rest.4
+
+  -- at most all elements are kept
+  picked_length : (bs : List Bool) (xs : List ℕ) → length (items_where_true bs xs) ≤ length xs
+  picked_length [] xs = omega arith
+  picked_length (b ∷ bs) [] = omega arith
+  picked_length (true ∷ bs) (x ∷ xs) = omega (arith, picked_length bs xs)
+  picked_length (false ∷ bs) (x ∷ xs) = omega (arith, picked_length bs xs)
+
+  pub at_most_all : (keep : F) (old now : PlainSet) →
+      IsFiltered R keep (ascending old) (ascending now) → size now ≤ size old
+  at_most_all keep old now filtered = omega (
+    arith,
+    ascending-length old,
+    ascending-length now,
+    ap length filtered.4,
+    picked_length filtered.0 (ascending old),
+  )
 
   -- the closure was `first`, and is `keep` after its calls with the members of `old` below `from`;
   -- `now` has those of them that it kept, and the later members of `old`

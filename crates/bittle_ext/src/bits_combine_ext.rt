@@ -11,8 +11,8 @@ use bittle::{BigEndian, Bits, BitsMut, BitsOwned};
 use bittle_bits::extension::{Conjunction, Difference, SymmetricDifference, Union};
 
 /// Changes of a set by another set, which may be of another type, such as a view. Both sets have to
-/// fit (`bits_capacity() < u32::MAX`). Beside them stand `from_set`, which makes a set, and
-/// `set_all`.
+/// fit (`bits_capacity() < u32::MAX`). The trait also has `from_set`, which makes a set, and
+/// `set_all`, which sets every bit.
 ///
 /// Each set is read in the bit order of its type; a view made by `in_order` or `in_order_mut` has
 /// the order that it names. The capacity of the changed set stays the same. Bits of the other set
@@ -46,6 +46,8 @@ pub trait BitsCombineExt: BitsMut {
             (set_in Self.Shape Self.Order.Endian self.new) result }
         ensures grew { IsTrue result → size (set_in Self.Shape Self.Order.Endian self.old)
             < size (set_in Self.Shape Self.Order.Endian self.new) }
+        ensures at_least { size (set_in Self.Shape Self.Order.Endian self.old)
+            ≤ size (set_in Self.Shape Self.Order.Endian self.new) }
         ensures stays { Self.loan self.old ≡ Self.loan self.new }
     {
         combine_with::<Self, B, Self::Order, B::Order, Union>(self, other)

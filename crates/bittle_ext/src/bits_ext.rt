@@ -17,8 +17,8 @@ use bittle_bits::extension::{Ones, Zeros, first_from, last_of, word_width};
 /// Questions about any set, beyond the calls of [`Bits`].
 ///
 /// The shape has to fit: its capacity, and that of each array type within it, is below `u32::MAX`.
-/// `bits_capacity() < u32::MAX` checks this. No index wraps here: past the capacity no bit is set
-/// and none is unset. With capacity 0 no bit is found. The bit order (big- or little-endian) is
+/// `bits_capacity() < u32::MAX` checks this. No index wraps here: from the capacity on no bit is
+/// set and none is unset. With capacity 0 no bit is found. The bit order (big- or little-endian) is
 /// that of the type; for another order, use the view that
 /// [`in_order`](crate::BitsViewExt::in_order) returns.
 pub trait BitsExt: Bits + Sized {
@@ -161,6 +161,7 @@ pub trait BitsExt: Bits + Sized {
         ensures value { result
             ≡ members_below (set_in Self.Shape Self.Order.Endian self.now) index }
         ensures at_most { result ≤ (Self.big self.now).capacity }
+        ensures at_most_index { result ≤ index }
         ensures at_most_all { result ≤ size (set_in Self.Shape Self.Order.Endian self.now) }
     {
         self.count_ones_in_range_in::<Self::Order>(
@@ -327,13 +328,13 @@ pub trait BitsExt: Bits + Sized {
     /// Returns `true` if every bit with an index in `from..to` is set. Indexes follow the bit order
     /// of the type.
     ///
-    /// The shape has to fit (`bits_capacity() < u32::MAX`). If the range has an index past the
-    /// capacity, where no bit is set, the call returns `false`. For an empty range, or one that
+    /// The shape has to fit (`bits_capacity() < u32::MAX`). If the range has an index at or past
+    /// the capacity, where no bit is set, the call returns `false`. For an empty range, or one that
     /// runs backwards, it returns `true`. Words are read up to the first unset bit.
     ///
     /// ```
     /// 0b0110_0000u8.all_in_range(5, 8);                   // false: bit 7 is unset
-    /// 0b1110_0000u8.all_in_range(5, 9);                   // false: 8 is past the capacity
+    /// 0b1110_0000u8.all_in_range(5, 9);                   // false: there is no bit 8
     /// ```
     #[inline]
     final fn all_in_range(&self, from: u32, to: u32) -> bool

@@ -1,6 +1,6 @@
 //! Everyday calls that change a set.
 
-ghost use Rattle.std.specs.Prelude.{◌≡◌, ◌+◌, ◌-◌, ◌<◌, ◌≤◌, ℕ, Bool, List, cond, not, IsTrue};
+ghost use Rattle.std.specs.Prelude.{◌≡◌, ◌+◌, ◌-◌, ◌<◌, ◌≤◌, ℕ, Bool, List, cond, length, not, IsTrue};
 ghost use Rattle.std.specs.Prelude.{MatchOption};
 ghost use Rattle.std.specs.Iterator.{Drains, IsFinite};
 ghost use Rattle.std.specs.Iterator.Runs.{WholeRun};
@@ -24,10 +24,11 @@ use bittle_bits::extension::{
     Difference, Ones, SymmetricDifference, Union, Zeros, first_from, last_of,
 };
 
-/// Everyday changes of any set that can be changed. No change alters the capacity. A change of one
-/// bit costs O(1). A shape or type fits if its capacity, and that of each array type within it, is
-/// below `u32::MAX`. The bit order (big- or little-endian) is that of the type; for another order,
-/// use the view that [`in_order_mut`](crate::BitsMutViewExt::in_order_mut) returns.
+/// Everyday changes of any set that can be changed. No change alters the capacity. A call that
+/// changes the bit at a given index costs O(1). A shape or type fits if its capacity, and that of
+/// each array type within it, is below `u32::MAX`. The bit order (big- or little-endian) is that of
+/// the type; for another order, use the view that
+/// [`in_order_mut`](crate::BitsMutViewExt::in_order_mut) returns.
 pub trait BitsMutExt: BitsMut + Sized {
     /// Sets the bit at `index`, and returns `true` if the bit was unset before. Indexes follow the
     /// bit order of the type, and an index at or past the capacity wraps. With capacity 0 nothing
@@ -129,11 +130,16 @@ pub trait BitsMutExt: BitsMut + Sized {
         ensures was_set { result ≡ contains (set_in Self.Shape Self.Order.Endian self.old) index }
         ensures set { set_in Self.Shape Self.Order.Endian self.new
             ≡ with_index_assigned (set_in Self.Shape Self.Order.Endian self.old) index value }
+        ensures count { 0 < (Self.big self.old).capacity
+            → size (set_in Self.Shape Self.Order.Endian self.new) + cond result 1 0
+            ≡ size (set_in Self.Shape Self.Order.Endian self.old) + cond value 1 0 }
         ensures stays { Self.loan self.old ≡ Self.loan self.new }
     {
-        let before = self.test_bit_in::<Self::Order>(index);
-        self.assign(index, value);
-        before
+        if value {
+            !self.insert(index)
+        } else {
+            self.remove(index)
+        }
     }
 
     /// Flips the bit at `index`. Indexes follow the bit order of the type, and an index at or past
@@ -178,6 +184,10 @@ pub trait BitsMutExt: BitsMut + Sized {
         requires within { to ≤ (Self.big self.old).capacity }
         ensures set { set_in Self.Shape Self.Order.Endian self.new
             ≡ with_span_assigned (set_in Self.Shape Self.Order.Endian self.old) from to value }
+        ensures count { let before = set_in Self.Shape Self.Order.Endian self.old in
+            size (set_in Self.Shape Self.Order.Endian self.new)
+            ≡ size before - (members_below before to - members_below before from)
+            + cond value (to - from) 0 }
         ensures stays { Self.loan self.old ≡ Self.loan self.new }
     {
         if value {
@@ -201,6 +211,8 @@ pub trait BitsMutExt: BitsMut + Sized {
         ensures set { Self.big self.new ≡ complement (Self.big self.old) }
         ensures in_each_order { (mirrored : Bool) → set_mirrored Self.Shape mirrored self.new
             ≡ complement (set_mirrored Self.Shape mirrored self.old) }
+        ensures count { size (Self.big self.new) + size (Self.big self.old)
+            ≡ (Self.big self.old).capacity }
         ensures stays { Self.loan self.old ≡ Self.loan self.new }
     {
         let capacity = self.bits_capacity();
@@ -346,6 +358,8 @@ pub trait BitsMutExt: BitsMut + Sized {
         requires callable { IsCallableBelow (Self.big self.old).capacity F.FnMut keep }
         ensures set { Retains F.step keep (set_in Self.Shape Self.Order.Endian self.old)
             (set_in Self.Shape Self.Order.Endian self.new) }
+        ensures at_most { size (set_in Self.Shape Self.Order.Endian self.new)
+            ≤ size (set_in Self.Shape Self.Order.Endian self.old) }
         ensures stays { Self.loan self.old ≡ Self.loan self.new }
     {
         retain::<Self, Self::Order, F>(self, keep);
@@ -366,6 +380,8 @@ pub trait BitsMutExt: BitsMut + Sized {
         requires { IsTrue Self.indexable }
         ensures set { set_in Self.Shape Self.Order.Endian self.new
             ≡ fold with_index (set_in Self.Shape Self.Order.Endian self.old) indexes.now }
+        ensures at_most { size (set_in Self.Shape Self.Order.Endian self.new)
+            ≤ size (set_in Self.Shape Self.Order.Endian self.old) + length indexes.now }
         ensures stays { Self.loan self.old ≡ Self.loan self.new }
     {
         for index in indexes {

@@ -1,12 +1,12 @@
 //! Everyday calls that make owned sets.
 
-ghost use Rattle.std.specs.Prelude.{◌≡◌, ◌+◌, ◌<◌, ◌≤◌, ℕ, Bool, false, List, IsTrue};
+ghost use Rattle.std.specs.Prelude.{◌≡◌, ◌+◌, ◌<◌, ◌≤◌, ℕ, Bool, false, length, List, IsTrue};
 ghost use Rattle.std.specs.Iterator.{Drains, IsFinite};
 ghost use Rattle.std.specs.Iterator.Runs.{WholeRun};
 ghost use Rattle.std.specs.List.{fold};
 ghost use Rattle.std.specs.Range.Bound.{start_index, end_index};
 ghost use Rattle.bittle_ext.specs.Rotations.{rotated_down, rotated_up, shifted_down, shifted_up};
-ghost use Rattle.bittle.specs.PlainSet.{complement, contains, empty_set, with_index};
+ghost use Rattle.bittle.specs.PlainSet.{complement, contains, empty_set, size, with_index};
 ghost use Rattle.bittle.specs.PlainSet.{with_span, without_span, with_span_toggled};
 ghost use Rattle.bittle.specs.Values.{set_in, set_mirrored};
 
@@ -106,7 +106,8 @@ pub trait BitsOwnedExt: BitsOwned {
     /// Returns a copy of this set in which every bit of the range is set. The call makes one mask
     /// per word of the range. A range that names no end goes up to the capacity. The range must not
     /// run backwards, and has to end at or below the capacity: no index wraps. A range `a..=b` that
-    /// was iterated over before is not allowed.
+    /// was iterated over before is not allowed. Indexes follow the bit order of the type. An empty
+    /// range changes nothing; with capacity 0 only an empty range is allowed.
     ///
     /// ```
     /// [0u8; 2].with_span(6..=10);                         // [0xC0, 0x07]
@@ -131,7 +132,8 @@ pub trait BitsOwnedExt: BitsOwned {
     /// Returns a copy of this set in which every bit of the range is unset. The call makes one mask
     /// per word of the range. A range that names no end goes up to the capacity. The range must not
     /// run backwards, and has to end at or below the capacity: no index wraps. A range `a..=b` that
-    /// was iterated over before is not allowed.
+    /// was iterated over before is not allowed. Indexes follow the bit order of the type. An empty
+    /// range changes nothing; with capacity 0 only an empty range is allowed.
     ///
     /// ```
     /// [0xFFu8; 2].without_span(..11);                     // [0x00, 0xF8]
@@ -156,7 +158,8 @@ pub trait BitsOwnedExt: BitsOwned {
     /// Returns a copy of this set in which every bit of the range is flipped. The call makes one
     /// mask per word of the range. A range that names no end goes up to the capacity. The range
     /// must not run backwards, and has to end at or below the capacity: no index wraps. A range
-    /// `a..=b` that was iterated over before is not allowed.
+    /// `a..=b` that was iterated over before is not allowed. Indexes follow the bit order of the
+    /// type. An empty range changes nothing; with capacity 0 only an empty range is allowed.
     ///
     /// ```
     /// 0b0011_1100u8.with_span_toggled(4..);               // 0b1100_1100
@@ -194,6 +197,8 @@ pub trait BitsOwnedExt: BitsOwned {
             ≡ rotated_down (set_in Self.Shape Self.Order.Endian self) by }
         ensures moved { (i : ℕ) → contains (set_in Self.Shape Self.Order.Endian result) i
             ≡ contains (set_in Self.Shape Self.Order.Endian self) (i + by) }
+        ensures count { size (set_in Self.Shape Self.Order.Endian result)
+            ≡ size (set_in Self.Shape Self.Order.Endian self) }
     {
         rotate_down::<Self, Self::Order>(&self, by)
     }
@@ -214,6 +219,8 @@ pub trait BitsOwnedExt: BitsOwned {
             ≡ rotated_up (set_in Self.Shape Self.Order.Endian self) by }
         ensures moved { (i : ℕ) → contains (set_in Self.Shape Self.Order.Endian result) (i + by)
             ≡ contains (set_in Self.Shape Self.Order.Endian self) i }
+        ensures count { size (set_in Self.Shape Self.Order.Endian result)
+            ≡ size (set_in Self.Shape Self.Order.Endian self) }
     {
         rotate_up::<Self, Self::Order>(&self, by)
     }
@@ -278,8 +285,9 @@ pub trait BitsOwnedExt: BitsOwned {
     #[inline]
     final fn from_indexes(indexes: &[u32]) -> Self
         requires { IsTrue Self.indexable }
-        ensures { set_in Self.Shape Self.Order.Endian result
+        ensures set { set_in Self.Shape Self.Order.Endian result
             ≡ fold with_index (empty_set Self.type_capacity) indexes.now }
+        ensures at_most { size (set_in Self.Shape Self.Order.Endian result) ≤ length indexes.now }
     {
         let mut set = Self::zeros();
         set.insert_all(indexes);

@@ -26,10 +26,11 @@ pub trait BitsRankExt: Bits + Sized {
         ensures value { result ≡ members_below
             (complement (set_in Self.Shape Self.Order.Endian self.now)) index }
         ensures at_most { result ≤ (Self.big self.now).capacity }
+        ensures at_most_index { result ≤ index }
         ensures at_most_all { result
             ≤ size (complement (set_in Self.Shape Self.Order.Endian self.now)) }
     {
-        self.complement_view().rank(index)
+        self.count_zeros_in_range(0, index)
     }
 
     /// Returns the index of the unset bit that has exactly `rank` unset bits below it, or `None` if

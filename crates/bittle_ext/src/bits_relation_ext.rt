@@ -1,6 +1,6 @@
 //! Relations of two sets.
 
-ghost use Rattle.std.specs.Prelude.{◌≡◌, ◌↔◌, IsTrue, ◌<◌, ◌≤◌, IfSome, max};
+ghost use Rattle.std.specs.Prelude.{◌+◌, ◌≡◌, ◌↔◌, IsTrue, ◌<◌, ◌≤◌, IfSome, max};
 ghost use Rattle.bittle_ext.specs.Combined.{both_of, first_only_of, just_one_of};
 ghost use Rattle.bittle_ext.specs.SetRelations.{IsSubset, AreDisjoint, Meet};
 ghost use Rattle.bittle_ext.specs.SetRelations.{IsFirstAlone, IsFirstCommon};
@@ -19,9 +19,9 @@ use bittle_bits::extension::{Difference, Ones, SymmetricDifference, Zeros, are_a
 ///
 /// Each set is read in the bit order of its type; a view made by `in_order` has the order that it
 /// names. If the words of both sets have the same width and order, the sets are compared word by
-/// word. Else the two sets are searched in turn, each from where the search of the other stopped.
-/// The capacities may differ: bits at or past the capacity of a set count as unset. With capacity 0
-/// a set is empty.
+/// word. Else a relation searches the two sets in turn, each from where the search of the other
+/// stopped, and a count tests each set bit of this set in `other`. The capacities may differ: bits
+/// at or past the capacity of a set count as unset. With capacity 0 a set is empty.
 ///
 /// ```
 /// let view = 0x80u8.in_order::<LittleEndian>();
@@ -153,6 +153,9 @@ pub trait BitsRelationExt: Bits + Sized {
         ensures value { let ours = set_in Self.Shape Self.Order.Endian self.now in
             let theirs = set_in B.Shape B.Order.Endian other.now in
             result ≡ size (both_of ours theirs) }
+        ensures with_alone { let ours = set_in Self.Shape Self.Order.Endian self.now in
+            let theirs = set_in B.Shape B.Order.Endian other.now in
+            size (first_only_of ours theirs) + result ≡ size (Self.big self.now) }
         ensures at_most { result ≤ (Self.big self.now).capacity }
         ensures at_most_ours { result ≤ size (Self.big self.now) }
         ensures at_most_theirs { result ≤ size (B.big other.now) }

@@ -2,7 +2,7 @@
 
 ghost use Rattle.std.specs.Prelude.{◌≡◌, ◌+◌, ◌<◌, ◌≤◌, ℕ, false};
 ghost use Rattle.bittle_ext.specs.Rotations.{rotated_down, rotated_up, shifted_down, shifted_up};
-ghost use Rattle.bittle.specs.PlainSet.{contains};
+ghost use Rattle.bittle.specs.PlainSet.{contains, size};
 ghost use Rattle.bittle.specs.Values.{set_in, ShapeFits};
 
 use crate::{shifts, turns};
@@ -85,6 +85,8 @@ pub trait BitsShiftExt: BitsMut {
             ≡ rotated_down (set_in Self.Shape Self.Order.Endian self.old) by }
         ensures moved { (i : ℕ) → contains (set_in Self.Shape Self.Order.Endian self.new) i
             ≡ contains (set_in Self.Shape Self.Order.Endian self.old) (i + by) }
+        ensures count { size (set_in Self.Shape Self.Order.Endian self.new)
+            ≡ size (set_in Self.Shape Self.Order.Endian self.old) }
         ensures stays { Self.loan self.old ≡ Self.loan self.new }
     {
         turns::turn_down::<Self, Self::Order>(self, by);
@@ -108,6 +110,8 @@ pub trait BitsShiftExt: BitsMut {
             ≡ rotated_up (set_in Self.Shape Self.Order.Endian self.old) by }
         ensures moved { (i : ℕ) → contains (set_in Self.Shape Self.Order.Endian self.new) (i + by)
             ≡ contains (set_in Self.Shape Self.Order.Endian self.old) i }
+        ensures count { size (set_in Self.Shape Self.Order.Endian self.new)
+            ≡ size (set_in Self.Shape Self.Order.Endian self.old) }
         ensures stays { Self.loan self.old ≡ Self.loan self.new }
     {
         turns::turn_up::<Self, Self::Order>(self, by);

@@ -32,6 +32,7 @@ pub mod seats;
 pub mod sets_between;
 pub mod shape_changes;
 pub mod shots;
+pub mod sizes;
 pub mod spans;
 pub mod texts;
 pub mod views;

@@ -51,6 +51,7 @@ fn change_one_bit<B: BitsMut>(rt: &impl Abort, few: &mut B, asked: &Asked)
     costs!(rt; asked, few.remove(0), false, 1, 1);
     costs!(rt; asked, few.try_insert(0), Some(true), 1, 1);
     costs!(rt; asked, few.try_remove(0), Some(true), 1, 1);
+    costs!(rt; asked, few.replace(451, true), true, 1, 1);
     costs!(rt; asked, few.toggle(1), (), 1, 1);
 }
 
@@ -64,7 +65,6 @@ fn assign_one_bit<B: BitsMut>(rt: &impl Abort, few: &mut B, asked: &Asked)
 {
     costs!(rt; asked, few.assign(5, true), (), 0, 1);
     costs!(rt; asked, few.assign(5, false), (), 0, 1);
-    costs!(rt; asked, few.replace(451, true), true, 0, 2);
     costs!(rt; asked, few.try_set_bit(5), true, 0, 1);
     costs!(rt; asked, few.try_clear_bit(5), true, 0, 1);
 }

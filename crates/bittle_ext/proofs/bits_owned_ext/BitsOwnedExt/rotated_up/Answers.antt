@@ -1,8 +1,12 @@
 use Rattle.std.proofs.Common.{◌+◌, ap, ◌∙◌}
-use Rattle.bittle.specs.PlainSet.{contains}
+use Rattle.bittle.specs.PlainSet.{contains, size}
 use Rattle.bittle_ext.proofs.RotatedSets.{rotated_to}
+use Rattle.bittle_ext.proofs.RotatedSizes.{size_rotated_up}
 use Rattle.bittle_ext.proofs.bits_owned_ext.BitsOwnedExt.rotated_up.Goals as goal
 
 pub returns-clause-moved : goal.returns-clause-moved
 returns-clause-moved g c i =
     ap (λ s. contains s (i + c.args.by)) c.rotate_up.ensures ∙ rotated_to _ _ i
+
+pub returns-clause-count : goal.returns-clause-count
+returns-clause-count g c = ap size c.rotate_up.ensures ∙ size_rotated_up _ _

@@ -1,0 +1,12 @@
+use Rattle.std.proofs.Common.{arith}
+use Rattle.bittle.specs.PlainSet.{complement}
+use Rattle.bittle.specs.Values.{set_in}
+use Rattle.bittle_ext.proofs.RankFacts.{below_zero}
+use Rattle.bittle_ext.proofs.bits_rank_ext.BitsRankExt.rank_zero.Goals as goal
+
+pub returns-clause-value : goal.returns-clause-value
+returns-clause-value g c = omega (
+  arith,
+  c.count_zeros_in_range.ensures.value,
+  below_zero (complement (set_in g.Self.Shape g.Self.Order.Endian c.args.self.now)),
+)
