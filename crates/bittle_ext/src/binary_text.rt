@@ -9,14 +9,14 @@ ghost use Rattle.bittle_ext.specs.Texts.{binary_text, digit};
 
 use crate::copies::width_of_words;
 use crate::numbers::{number_of, width_of};
-use bittle::{Bits, Endian};
+use bittle::{Bits, Endian, Shape};
 use bittle_bits::extension::Word;
 use std::fmt;
 
 /// A borrowed set that is printed as a binary number. The text has one digit for each bit, from the
 /// greatest index down to index 0, in both orders. The flags of the format change nothing.
 #[derive(Drop)]
-pub struct BinaryText<'a, B: Bits> {
+pub struct BinaryText<'a, B: Shape> {
     set: &'a B,
     pub ghost fits: { ShapeFits B.Shape set.now },
 }

@@ -95,6 +95,9 @@ fn next_run_before<B: Bits, E: Endian, K: Kind>(
     if end - from < length {
         return None;
     }
+    if length == 1 {
+        return end_in::<B, E, K, Front>(bits, from, end);
+    }
     let width = word_width::<B>();
     if (length - 1) / FEW_WORDS < width {
         let start = next_short_run::<B, E, K>(bits, from, end.div_ceil(width), length)?;
