@@ -12,8 +12,8 @@ use bittle::{Bits, BitsMut};
 ///
 /// If an index is at or past the capacity, these calls return `false` or `None`, while `test_bit`
 /// tests the bit that the index wraps to. Each call costs O(1). The type has to fit
-/// (`bits_capacity() < u32::MAX`). For a slice, only its element type has to fit. If it has more
-/// bits, its indexes end below `u32::MAX`.
+/// (`bits_capacity() < u32::MAX`). For a slice, only its element type has to fit. If a slice has
+/// `u32::MAX` bits or more, the index `u32::MAX` is refused too.
 ///
 /// The bit order (big- or little-endian) is that of the type; for another order, use the view that
 /// [`in_order`](crate::BitsViewExt::in_order) returns.
@@ -66,7 +66,8 @@ pub trait BitsIndexExt: Bits + Sized {
 ///
 /// If an index is at or past the capacity, nothing changes, and the call returns `false` or `None`.
 /// Each call costs O(1). The type has to fit (`bits_capacity() < u32::MAX`). For a slice, only its
-/// element type has to fit. If it has more bits, its indexes end below `u32::MAX`.
+/// element type has to fit. If a slice has `u32::MAX` bits or more, the index `u32::MAX` is refused
+/// too.
 ///
 /// The bit order (big- or little-endian) is that of the type; for another order, use the view that
 /// [`in_order_mut`](crate::BitsMutViewExt::in_order_mut) returns.

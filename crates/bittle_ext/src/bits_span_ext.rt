@@ -22,11 +22,11 @@ use std::ops::RangeBounds;
 /// in `_in_span` takes a Rust range, such as `2..=6`.
 ///
 /// The shape has to fit (`bits_capacity() < u32::MAX`). A range without an end ends at the
-/// capacity. A range with an end past the capacity is cut there: past the capacity no bit is set
-/// and none is unset. Only `all_in_range` and `all_in_span` return `false` for such a range, unless
-/// it is empty. A range that runs backwards is empty. A range `a..=b` that was iterated over before
-/// is not allowed. The bit order (big- or little-endian) is that of the type; for another order,
-/// use the view that [`in_order`](crate::BitsViewExt::in_order) returns.
+/// capacity. A range with an end past the capacity is cut there: from the capacity on no bit is set
+/// and none is unset. `all_in_range` and `all_in_span` do not cut it: they return `false` for such
+/// a range, unless it is empty. A range that runs backwards is empty. A range `a..=b` that was
+/// iterated over before is not allowed. The bit order (big- or little-endian) is that of the type;
+/// for another order, use the view that [`in_order`](crate::BitsViewExt::in_order) returns.
 pub trait BitsSpanExt: Bits + Sized {
     /// Returns how many bits of the range are set. The call goes word by word, not bit by bit. With
     /// capacity 0 it returns 0.
@@ -177,13 +177,13 @@ pub trait BitsSpanExt: Bits + Sized {
         self.first_one_in_span(range).is_some()
     }
 
-    /// Returns `true` if each bit of the range is set. If the range has an index past the capacity,
-    /// where no bit is set, the call returns `false`. For an empty range it returns `true`. Words
-    /// are read up to the first unset bit.
+    /// Returns `true` if each bit of the range is set. If the range has an index at or past the
+    /// capacity, where no bit is set, the call returns `false`. For an empty range it returns
+    /// `true`. Words are read up to the first unset bit.
     ///
     /// ```
     /// 0b1110_0000u8.all_in_span(5..);                     // true
-    /// 0b1110_0000u8.all_in_span(5..=8);                   // false: 8 is past the capacity
+    /// 0b1110_0000u8.all_in_span(5..=8);                   // false: there is no bit 8
     /// ```
     #[inline]
     final fn all_in_span<R: RangeBounds<u32>>(&self, range: R) -> bool

@@ -9,7 +9,7 @@ ghost use Rattle.bittle.specs.Values.{set_in};
 
 use bittle::{BitsMut, Endian};
 
-/// Sets the bit at each index that the iterator yields, in the order `E`. An index past the
+/// Sets the bit at each index that the iterator yields, in the order `E`. An index at or past the
 /// capacity wraps.
 #[inline]
 pub(crate) fn insert_each<B: BitsMut, E: Endian, I: Iterator<Item = u32>>(set: &mut B, indexes: I)

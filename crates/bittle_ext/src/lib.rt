@@ -3,13 +3,14 @@
 //! whether it changed, change a range at once, remove the first or last set bit, and flip all bits.
 //! They make a set from a list of indexes, and iterate over a range and over runs.
 //!
-//! The calls are in extension traits, which every set of `bittle` has. The calls are proved from
-//! contracts alone: from those that users see, and from those of `bittle_bits::extension`, which is
-//! for the crates of this project. The twelve integer types, the orders, searches, iterators, joins
-//! and the operations on two sets are in `bittle`. A call uses the bit order of the set's type. For
-//! another order, make the call on the view that [`in_order`](BitsViewExt::in_order) or
-//! [`in_order_mut`](BitsMutViewExt::in_order_mut) returns, or wrap an owned set in a `Set`, which
-//! remembers its order.
+//! The calls are in extension traits. Every set has the traits whose calls read it. A set that can
+//! be changed also has those whose calls change it, and an owned set those whose calls make a set.
+//! The calls are proved from contracts alone: from those that users see, and from those of
+//! `bittle_bits::extension`, which is for the crates of this project. The twelve integer types, the
+//! orders, searches, iterators, joins and the operations on two sets are in `bittle`. A call uses
+//! the bit order of the set's type. For another order, make the call on the view that
+//! [`in_order`](BitsViewExt::in_order) or [`in_order_mut`](BitsMutViewExt::in_order_mut) returns,
+//! or wrap an owned set in a `Set`, which remembers its order.
 //!
 //! ```rust
 //! use bittle::prelude::*;

@@ -1,7 +1,7 @@
 //! Rotates all bits of a set in place. A rotation by few bits, in either direction, first computes
 //! the one or two words that wrapped bits come to. A shift then moves the other bits. A longer
-//! rotation first rotates whole words, by three reversals. "Few" means fewer than two words have
-//! downward, and at most as many upward.
+//! rotation first rotates whole words, by three reversals. The bits are few if they are fewer than
+//! those of two words downward, and at most as many upward.
 
 ghost use Rattle.std.specs.Prelude.{◌≡◌, ◌+◌, ◌*◌, ◌<◌, ◌≤◌};
 ghost use Rattle.bittle_ext.specs.Rotations.{exchanged, HasWordsOf, mirrored_within};

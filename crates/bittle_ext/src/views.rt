@@ -319,7 +319,7 @@ pub trait BitsViewExt: Bits {
     /// bit order of this set. Every bit outside the range is unset in the view.
     ///
     /// The shape has to fit (`bits_capacity() < u32::MAX`). Past the capacity no bit is set, and a
-    /// range that runs backwards is empty. A count, or a test whether any bit is set, reads only
+    /// range that runs backwards is empty. `count_ones`, `count_zeros` and `all_zeros` read only
     /// the words of the range. With capacity 0 the view is the empty set.
     ///
     /// ```

@@ -21,8 +21,8 @@ pub type Within<'a, B, E> = KindWithin<'a, B, E, Ones>;
 /// A view in which exactly the bits of the kind `K` (set or unset) in a range of a borrowed set are
 /// set. The view has the capacity of that set, and both are read in the order `E`. Each word is
 /// computed when it is read. An iterator over the set bits of the view reads only the words of the
-/// range. A search may first read one word outside of the range; else it reads only words of the
-/// range.
+/// range. A search for a set bit may first read one word outside of the range; else it reads only
+/// words of the range. A search for an unset bit also reads words outside of the range.
 #[derive(Drop)]
 pub struct KindWithin<'a, B: Shape, E: Endian, K: Kind> {
     set: &'a B,
