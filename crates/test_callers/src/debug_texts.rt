@@ -23,6 +23,8 @@ fn reads<T: Debug>(
 fn requests_are_named_with_their_page(rt: HostRuntime) -> Result<(), Fail> {
     reads(&rt, rt.alloc(), &Request::Take, "Take")?;
     reads(&rt, rt.alloc(), &Request::GiveBack(12), "GiveBack(12)")?;
+    reads(&rt, rt.alloc(), &Request::TakeRun(3), "TakeRun(3)")?;
+    reads(&rt, rt.alloc(), &Request::GiveBackRun(4, 2), "GiveBackRun(4, 2)")?;
     Ok(())
 }
 
@@ -32,6 +34,8 @@ fn answers_are_named_with_their_page(rt: HostRuntime) -> Result<(), Fail> {
     reads(&rt, rt.alloc(), &Answer::Full, "Full")?;
     reads(&rt, rt.alloc(), &Answer::Given, "Given")?;
     reads(&rt, rt.alloc(), &Answer::NotTaken, "NotTaken")?;
+    reads(&rt, rt.alloc(), &Answer::Run(12), "Run(12)")?;
+    reads(&rt, rt.alloc(), &Answer::NoRun, "NoRun")?;
     Ok(())
 }
 

@@ -9,7 +9,7 @@ use crate::checks::same;
 use crate::probe::{ONES, Probe, ZEROS};
 use crate::walked::count_ones;
 use bittle::Bits;
-use bittle_ext::BitsViewExt;
+use bittle_ext::{BitsRelationExt, BitsViewExt};
 
 // Counts the members in `from..to` of a set, with an iterator over a view of that range.
 fn count_walked<B: Bits>(set: &B, from: u32, to: u32) -> usize
@@ -41,6 +41,25 @@ fn a_view_of_two_sets_fetches_each_word_of_both_once(rt: HostRuntime) {
     // The first set has the members 0 and 31, the second set all others. They have none in common.
     let (ours, theirs) = (Asked::new(), Asked::new());
     same!(rt; are_apart(&Probe::of(ONES, &ours), &Probe::of(ZEROS, &theirs)), true);
+    counts!(rt; ours, 4, 0);
+    counts!(rt; theirs, 4, 0);
+}
+
+// Returns how many members two sets have in common.
+fn count_common<A: Bits, B: Bits>(left: &A, right: &B) -> u32
+    requires left { ShapeFits A.Shape left.now }
+    requires right { ShapeFits B.Shape right.now }
+{
+    left.count_common(right)
+}
+
+#[test]
+fn a_count_of_common_members_fetches_no_word_past_a_shorter_first_set(rt: HostRuntime) {
+    // The first set has four words and the members 0 and 31. The second set has eight words and the
+    // members 0, 31, 32 and 63.
+    let (ours, theirs) = (Asked::new(), Asked::new());
+    let row = [Probe::of(ONES, &theirs); 2];
+    same!(rt; count_common(&Probe::of(ONES, &ours), &row), 2);
     counts!(rt; ours, 4, 0);
     counts!(rt; theirs, 4, 0);
 }

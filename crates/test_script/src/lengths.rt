@@ -159,7 +159,7 @@ fn each_beginning_of_a_script_is_answered(rt: HostRuntime) {
     }
 }
 
-/// Returns a script that prints `length` bytes (18 or more). Each `ones` prints the members of a
+/// Returns a script that prints `length` bytes (4 or more). Each `ones` prints the members of a
 /// full byte, which takes 16 bytes. Each `count` prints 2 bytes. If `length` is odd, one `test`
 /// prints 5 bytes.
 fn script_that_prints(length: usize) -> Script {
@@ -179,11 +179,11 @@ fn script_that_prints(length: usize) -> Script {
     script
 }
 
-/// Checks outputs of 18 to 8,192 bytes: the shortest ones, those that about fill one or two pieces
+/// Checks outputs of 4 to 8,192 bytes: the shortest ones, those that about fill one or two pieces
 /// of 4,096 bytes, and between them those whose length has the remainder `first` if it is divided
 /// by 101. If `stutters` is `true`, the first write of each piece is interrupted.
 fn print_lengths(rt: &impl Abort, first: usize, stutters: bool) {
-    for length in 18..=8192 {
+    for length in 4..=8192 {
         let is_near = length < 60 || length > 4085 && length < 4105 || length > 8180;
         if is_near || length % 101 == first {
             let script = script_that_prints(length);

@@ -57,11 +57,11 @@ fn a_text_names_members_of_six_digits(rt: HostRuntime) -> Result<(), Fail> {
 #[test]
 fn the_text_of_a_full_set(rt: HostRuntime) -> Result<(), Fail> {
     let mut expected = format!(in rt.alloc(); "{{0")?;
-    for index in 1..128u32 {
+    for index in 1..1_024u32 {
         write!(expected, ", {index}")?;
     }
     write!(expected, "}}")?;
-    let set: Set<[u64; 2]> = set![0..];
+    let set: Set<[u64; 16]> = set![0..];
     same!(rt;
         format!(in rt.alloc(); "{set:?}")?.as_str(),
         expected.as_str()

@@ -1,6 +1,7 @@
 //! Views of the result of an operation on two sets, of any word widths and orders.
 
 ghost use Rattle.std.specs.Prelude.{◌≡◌, ◌<◌, ◌≤◌, Bool, false, true, refl, max, ⊤, IsTrue, IfSome};
+ghost use Rattle.std.specs.Option.{is_some};
 ghost use Rattle.bittle_ext.specs.Combined.{decided_set};
 ghost use Rattle.bittle_ext.specs.ViewLaws.{none_past_both, whole_words_of};
 ghost use Rattle.bittle_ext.specs.Views.{decided_until, decided_of_first, read_back};
@@ -282,8 +283,12 @@ impl<'a, A: ReadWords, B: ReadWords, E: Endian, F: Endian, O: ViewOperation, R: 
 fn whole<'a, A: ReadWords, B: ReadWords, E: Endian, F: Endian, O: Operation, R: Reach>(
     view: &OfBoth<'a, A, B, E, F, O, R>,
 ) -> Option<OfBoth<'a, A, B, E, F, O, Whole>>
-    ensures { IfSome result (λ found. ⟦<OfBoth<'a, A, B, E, F, O, Whole> as Shape>⟧.big found
+    ensures same { IfSome result (λ found. ⟦<OfBoth<'a, A, B, E, F, O, Whole> as Shape>⟧.big found
         ≡ ⟦<OfBoth<'a, A, B, E, F, O, R> as Shape>⟧.big view.now) }
+    ensures found { ShapeFits A.Shape view.now.left.now → ShapeFits B.Shape view.now.right.now
+        → A.width ≡ B.width → E.mirrored ≡ F.mirrored
+        → view.now.end ≤ (A.big view.now.left.now).capacity
+        → view.now.end ≤ (B.big view.now.right.now).capacity → is_some result ≡ true }
 {
     let shorter = view.left.capacity().min(view.right.capacity());
     if !are_alike::<A, B, E, F>() || shorter < view.end {
