@@ -24,7 +24,12 @@ fn requests_are_named_with_their_page(rt: HostRuntime) -> Result<(), Fail> {
     reads(&rt, rt.alloc(), &Request::Take, "Take")?;
     reads(&rt, rt.alloc(), &Request::GiveBack(12), "GiveBack(12)")?;
     reads(&rt, rt.alloc(), &Request::TakeRun(3), "TakeRun(3)")?;
-    reads(&rt, rt.alloc(), &Request::GiveBackRun(4, 2), "GiveBackRun(4, 2)")?;
+    reads(
+        &rt,
+        rt.alloc(),
+        &Request::GiveBackRun(4, 2),
+        "GiveBackRun(4, 2)",
+    )?;
     Ok(())
 }
 
