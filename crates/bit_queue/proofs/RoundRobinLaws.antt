@@ -233,8 +233,8 @@ in_their_turn r events task h ready enough =
     })
 
 -- a ready task runs within as many steps as there are tasks
-pub within_a_round : (r : Round) (events : List Event) (task : ℕ) → task < r.ready.capacity →
+pub within_as_many_steps : (r : Round) (events : List Event) (task : ℕ) → task < r.ready.capacity →
     r.ready.has task ≡ true → r.ready.capacity ≤ count_by is_next events →
     RunsIn (answers_in_turn r events) task
-within_a_round r events task h ready enough = in_their_turn r events task h ready
+within_as_many_steps r events task h ready enough = in_their_turn r events task h ready
     (omega (arith, enough, size_at_most (ever_ready r.ready events)))

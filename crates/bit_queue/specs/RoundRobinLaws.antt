@@ -80,8 +80,8 @@ TasksRunInTheirTurn =
     → RunsIn (answers_in_turn r events) task
 
 -- a ready task runs within as many steps as there are tasks, whatever is woken
-abbrev pub TasksRunWithinARound : Type 0
-TasksRunWithinARound =
+abbrev pub TasksRunWithinAsManySteps : Type 0
+TasksRunWithinAsManySteps =
     (r : Round) (events : List Event) (task : ℕ)
     → task < r.ready.capacity
     → r.ready.has task ≡ true

@@ -7,7 +7,7 @@ ghost use Rattle.bit_queue.specs.RoundRobinLaws.{NextInTurnRuns, RoundIsIdleExac
 ghost use Rattle.bit_queue.specs.RoundRobinLaws.{AnswersAreOfTheirRounds};
 ghost use Rattle.bit_queue.specs.RoundRobinLaws.{RestingTasksAreWokenFirstInTurn};
 ghost use Rattle.bit_queue.specs.RoundRobinLaws.{TasksAreWokenBetweenTurns, TasksRunInTheirTurn};
-ghost use Rattle.bit_queue.specs.RoundRobinLaws.{TasksRunWithinARound};
+ghost use Rattle.bit_queue.specs.RoundRobinLaws.{TasksRunWithinAsManySteps};
 
 /// States that a task which runs is ready, and that no ready task comes before it in turn.
 pub fn next_in_turn_runs()
@@ -43,6 +43,6 @@ pub fn tasks_run_in_their_turn()
 {}
 
 /// States that a ready task runs within as many steps as there are tasks, whatever is woken.
-pub fn tasks_run_within_a_round()
-    ensures { TasksRunWithinARound }
+pub fn tasks_run_within_as_many_steps()
+    ensures { TasksRunWithinAsManySteps }
 {}
