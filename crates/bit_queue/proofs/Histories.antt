@@ -1,10 +1,10 @@
 -- Laws of every list of events, for any machine with these properties: only ready tasks run, a task
 -- that runs is no longer ready, and a task becomes ready only by a wake.
-use Rattle.std.proofs.Common.{◌≡◌, ℕ, zero, suc, ◌<◌, ◌⊎◌, Bool, true, false, List, [], ◌∷◌, Some, inl, inr, refl, sym, ap, ◌∙◌, arith}
-use Rattle.std.specs.List.{scan}
+use Rattle.std.proofs.Common.{◌≡◌, ℕ, zero, suc, ◌+◌, ◌<◌, ◌⊎◌, Bool, true, false, List, [], ◌∷◌, Some, inl, inr, refl, sym, ap, ◌∙◌, arith}
+use Rattle.std.specs.List.{fold, scan}
 use Rattle.std.specs.Prelude.{slice_get}
-use Rattle.std.proofs.lemmas.Bool.{true≢false}
-use Rattle.bit_queue.specs.QueueLaws.{IsAnsweredAt}
+use Rattle.std.proofs.lemmas.Bool.{cases_Bool, true≢false}
+use Rattle.bit_queue.specs.QueueLaws.{IsAnsweredAt, IsLeftReady, NeverRunsFrom}
 use Rattle.bit_queue.specs.declared.Answer.{Answer}
 use Rattle.bit_queue.specs.declared.Answer.TheVariants.{Runs}
 use Rattle.bit_queue.specs.declared.Event.{Event}
@@ -65,3 +65,81 @@ module _ {S : Type 0} (answer : S → Event → Answer) (after : S → Event →
   woken_between s (event ∷ events) task (suc i) (suc j) h a b =
       let later = woken_between (after s event) events task i j (omega arith) a b in
       (suc later.0, omega (arith, later.1), omega (arith, later.2), later.3)
+
+-- which tasks are ready after a list of events, for any machine in which besides no event changes
+-- the number of tasks, a ready task that does not run stays ready, and a task that is woken is ready
+module _ {S : Type 0} (answer : S → Event → Answer) (after : S → Event → S) (tasks : S → ℕ)
+    (ready : S → ℕ → Bool)
+    (rests : (s : S) (event : Event) (task : ℕ) → answer s event ≡ Runs task →
+    ready (after s event) task ≡ false)
+    (wakes : (s : S) (event : Event) (task : ℕ) → ready s task ≡ false →
+    (ready (after s event) task ≡ false) ⊎ (event ≡ Wake task))
+    (keeps : (s : S) (event : Event) → tasks (after s event) ≡ tasks s)
+    (stays : (s : S) (event : Event) (task : ℕ) → ready s task ≡ true →
+    (answer s event ≡ Runs task → ⊥) → ready (after s event) task ≡ true)
+    (woken : (s : S) (task : ℕ) → task < tasks s → ready (after s (Wake task)) task ≡ true) where
+  -- a ready task that does not run stays ready
+  ready_stays : (s : S) (events : List Event) (task : ℕ) → ready s task ≡ true →
+      NeverRunsFrom 0 (scan after answer s events) task →
+      ready (fold after s events) task ≡ true
+  ready_stays s [] task is never = is
+  ready_stays s (event ∷ events) task is never =
+      ready_stays (after s event) events task
+      (stays s event task is (λ e. never zero (omega arith) (ap Some e)))
+      (λ j from e. never (suc j) (omega arith) e)
+
+  -- a task that is woken, and does not run after that, stays ready
+  woken_stays : (s : S) (events : List Event) (task k : ℕ) → task < tasks s →
+      slice_get events k ≡ Some (Wake task) →
+      NeverRunsFrom (k + 1) (scan after answer s events) task →
+      ready (fold after s events) task ≡ true
+  woken_stays s [] task k h asked never = absurd (cc)
+  woken_stays s (event ∷ events) task zero h asked never =
+      let is : Wake task ≡ event = cc in
+      ready_stays (after s event) events task
+      (ap (λ x. ready (after s x) task) (sym is) ∙ woken s task h)
+      (λ j from e. never (suc j) (omega arith) e)
+  woken_stays s (event ∷ events) task (suc k) h asked never =
+      woken_stays (after s event) events task k (omega (arith, h, keeps s event)) asked
+      (λ j from e. never (suc j) (omega (arith, from)) e)
+
+  -- a task that the events and their answers leave ready is ready
+  pub is_left : (s : S) (events : List Event) (task : ℕ) → task < tasks s →
+      IsLeftReady (ready s task) events (scan after answer s events) task →
+      ready (fold after s events) task ≡ true
+  is_left s events task h (inl was) = ready_stays s events task was.0 was.1
+  is_left s events task h (inr at) = woken_stays s events task at.0 h at.1 at.2
+
+  -- a task that is ready was left ready
+  pub was_left : (s : S) (events : List Event) (task : ℕ) →
+      ready (fold after s events) task ≡ true →
+      IsLeftReady (ready s task) events (scan after answer s events) task
+  was_left s [] task is = inl (is, λ j from e. absurd (cc))
+  was_left s (event ∷ events) task is = by (was_left (after s event) events task is)
+    where
+      later : List Answer
+      later = scan after answer (after s event) events
+
+      by : IsLeftReady (ready (after s event) task) events later task →
+          IsLeftReady (ready s task) (event ∷ events) (answer s event ∷ later) task
+      by (inr at) = inr (suc at.0, at.1, past)
+        where
+          past : NeverRunsFrom (suc at.0 + 1) (answer s event ∷ later) task
+          past zero from e = absurd (omega (arith, from))
+          past (suc j) from e = at.2 j (omega (arith, from)) e
+      by (inl now) = elim (cases_Bool (ready s task)) [
+        | inl was ↦ inl (was, all)
+        | inr none ↦ elim (wakes s event task none) [
+          | inl still ↦ absurd (true≢false (sym now.0 ∙ still))
+          | inr wake ↦ inr (zero, ap Some wake, past)
+        ]
+      ]
+        where
+          all : NeverRunsFrom 0 (answer s event ∷ later) task
+          all zero from e =
+              let is : answer s event ≡ Runs task = cc in
+              true≢false (sym now.0 ∙ rests s event task is)
+          all (suc j) from e = now.1 j (omega arith) e
+
+          past : NeverRunsFrom (zero + 1) (answer s event ∷ later) task
+          past j from e = all j (omega arith) e

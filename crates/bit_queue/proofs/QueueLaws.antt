@@ -1,18 +1,19 @@
 -- What follows from the queue machine for every list of events.
 use Rattle.std.proofs.Common.{◌≡◌, ℕ, zero, suc, ◌+◌, ◌<◌, ◌≤◌, ◌⊎◌, Bool, true, false, not, cond, ◌&&◌, ◌||◌, ◌==◌, nat_lt, Option, Some, None, List, [], ◌∷◌, inl, inr, refl, sym, ap, ◌∙◌, arith}
-use Rattle.std.specs.List.{count_by, scan}
+use Rattle.std.specs.List.{count_by, fold, scan}
 use Rattle.std.specs.Prelude.{◌↔◌, MatchOption, slice_get}
-use Rattle.std.proofs.lemmas.Bool.{cases_eq, cases_Bool, cases_lt, eq-eqb, ne_eqb, or_right, and_right, true≢false}
+use Rattle.std.proofs.lemmas.Bool.{cases_eq, cases_Bool, cases_lt, lt-ltb, ltb-true, le-ltb, eq-eqb, ne_eqb, or_right, and_parts, and_right, true≢false}
 use Rattle.bittle.specs.PlainSet.{PlainSet, members_below}
 use Rattle.bittle.specs.Searches.{NoneIn}
-use Rattle.bit_queue.specs.Queue.{most_urgent, with_task, without_task, with_woken, runs_or_idle, without_picked, answer_to, state_after, event_answers}
-use Rattle.bit_queue.specs.QueueLaws.{IsMostUrgent, IsAnsweredAt, IsWokenFirst, IsWokenBetween, is_next, wakes_more_urgent, RunsIn}
+use Rattle.bit_queue.specs.Queue.{is_ready, most_urgent, with_task, without_task, with_woken, runs_or_idle, without_picked, answer_to, state_after, event_answers, final_state}
+use Rattle.bit_queue.specs.QueueLaws.{IsMostUrgent, IsAnsweredAt, IsWokenFirst, IsWokenBetween, IsLeftReady, is_next, wakes_more_urgent, RunsIn}
 use Rattle.bit_queue.specs.declared.Answer.{Answer}
 use Rattle.bit_queue.specs.declared.Answer.TheVariants.{Woken, NoTask, Runs, Idle}
 use Rattle.bit_queue.specs.declared.Event.{Event}
 use Rattle.bit_queue.specs.declared.Event.TheVariants.{Wake, Next}
+use Rattle.bittle.proofs.Replies.{run_keeps}
 use Rattle.bit_queue.proofs.Counting.{counts_less, counts_with, counts_item}
-use Rattle.bit_queue.proofs.Urgency.{most_urgent-is}
+use Rattle.bit_queue.proofs.Urgency.{most_urgent-is, ready-member}
 use Rattle.bit_queue.proofs.Histories as histories
 
 pub woken_is_no_run : (b : Bool) (task : ℕ) → cond b Woken NoTask ≡ Runs task → ⊥
@@ -22,6 +23,25 @@ woken_is_no_run false task e = cc
 pub woken_is_not_idle : (b : Bool) → cond b Woken NoTask ≡ Idle → ⊥
 woken_is_not_idle true e = cc
 woken_is_not_idle false e = cc
+
+-- NoTask is answered to a wake exactly if the number is at or past the number of tasks
+pub woken_is_no_task : (tasks other : ℕ) → (cond (nat_lt other tasks) Woken NoTask ≡ NoTask)
+    ↔ ((task : ℕ) × (Wake other ≡ Wake task) × (tasks ≤ task))
+woken_is_no_task tasks other = elim (cases_lt other tasks) [
+  | inl l ↦ (
+    λ e. absurd (let is : Woken ≡ NoTask =
+        sym (ap (λ b. cond b Woken NoTask) (lt-ltb other tasks l)) ∙ e in cc),
+    λ w. let same : other ≡ w.0 = cc in absurd (omega (arith, l, same, w.2)),
+  )
+  | inr g ↦ (
+    λ e. (other, refl, g),
+    λ w. ap (λ b. cond b Woken NoTask) (le-ltb other tasks g),
+  )
+]
+
+pub run_is_no_no_task : (picked : Option ℕ) → runs_or_idle picked ≡ NoTask → ⊥
+run_is_no_no_task None e = cc
+run_is_no_no_task (Some task) e = cc
 
 -- the task that runs is the one that was picked
 pub run_is_picked : (picked : Option ℕ) (task : ℕ) → runs_or_idle picked ≡ Runs task →
@@ -59,6 +79,15 @@ idle_is_none s Next = by (most_urgent s) (most_urgent-is s)
       λ e. absurd (true≢false (sym urgent.is_ready ∙ e.1 p (omega arith) urgent.within)),
     )
 
+-- NoTask is answered exactly if an event wakes a number at or past the number of tasks
+pub no_task_is_past : (s : PlainSet) (event : Event) → (answer_to s event ≡ NoTask)
+    ↔ ((task : ℕ) × (event ≡ Wake task) × (s.capacity ≤ task))
+no_task_is_past s (Wake other) = woken_is_no_task s.capacity other
+no_task_is_past s Next = (
+  λ e. absurd (run_is_no_no_task (most_urgent s) e),
+  λ w. absurd (let same = w.1 in cc),
+)
+
 -- a task that was taken out is not ready
 pub taken_out : (s : PlainSet) (task : ℕ) → (without_task s task).has task ≡ false
 taken_out s task = ap (λ b. not b && s.has task) (eq-eqb task task refl)
@@ -85,6 +114,29 @@ wakes_alone s other task e = by (cases_eq task other) (nat_lt other s.capacity)
     by (inr apart) true = inl (ap (λ b. b || s.has task) (ne_eqb task other apart) ∙ e)
     by (inr apart) false = inl e
 
+-- a wake keeps the number of tasks
+pub wakes_keep : (s : PlainSet) (other : ℕ) → (with_woken s other).capacity ≡ s.capacity
+wakes_keep s other = by (nat_lt other s.capacity)
+  where
+    by : (b : Bool) → (cond b (with_task s other) s).capacity ≡ s.capacity
+    by true = refl
+    by false = refl
+
+-- a ready task stays ready if any task is woken
+pub still_ready : (s : PlainSet) (other task : ℕ) → s.has task ≡ true →
+    (with_woken s other).has task ≡ true
+still_ready s other task is = by (nat_lt other s.capacity)
+  where
+    by : (b : Bool) → (cond b (with_task s other) s).has task ≡ true
+    by true = or_right (task == other) (s.has task) is
+    by false = is
+
+-- a task that is woken is ready
+pub woken_ready : (s : PlainSet) (task : ℕ) → task < s.capacity →
+    (with_woken s task).has task ≡ true
+woken_ready s task h = ap (λ b. (cond b (with_task s task) s).has task) (lt-ltb task s.capacity h)
+    ∙ ap (λ b. b || s.has task) (eq-eqb task task refl)
+
 -- the facts about the machine that the lemmas of Histories.antt require
 runs_ready : (s : PlainSet) (event : Event) (task : ℕ) → answer_to s event ≡ Runs task →
     s.has task ≡ true
@@ -102,6 +154,23 @@ wakes : (s : PlainSet) (event : Event) (task : ℕ) → s.has task ≡ false →
 wakes s (Wake other) task e = wakes_alone s other task e
 wakes s Next task e = inl (still_rests s (most_urgent s) task e)
 
+keeps : (s : PlainSet) (event : Event) → (state_after s event).capacity ≡ s.capacity
+keeps s (Wake other) = wakes_keep s other
+keeps s Next = by (most_urgent s)
+  where
+    by : (o : Option ℕ) → (without_picked s o).capacity ≡ s.capacity
+    by None = refl
+    by (Some p) = refl
+
+stays : (s : PlainSet) (event : Event) (task : ℕ) → s.has task ≡ true →
+    (answer_to s event ≡ Runs task → ⊥) → (state_after s event).has task ≡ true
+stays s (Wake other) task is never = still_ready s other task is
+stays s Next task is never = by (most_urgent s) never
+  where
+    by : (o : Option ℕ) → (runs_or_idle o ≡ Runs task → ⊥) → (without_picked s o).has task ≡ true
+    by None never = is
+    by (Some p) never = others_stay s p task (λ same. never (ap Runs (sym same))) ∙ is
+
 pub answered_at : (s : PlainSet) (events : List Event) (i : ℕ) (reply : Answer) →
     slice_get (event_answers s events) i ≡ Some reply →
     IsAnsweredAt answer_to state_after s events i reply
@@ -117,6 +186,29 @@ pub woken_between : (s : PlainSet) (events : List Event) (task : ℕ) →
     IsWokenBetween events (event_answers s events) task
 unfolding event_answers
 woken_between = histories.woken_between answer_to state_after (λ s k. s.has k) runs_ready rests wakes
+
+-- a task is ready after a list of events exactly if the events and their answers leave it ready
+pub ready_is_left : (s : PlainSet) (events : List Event) (task : ℕ) →
+    (is_ready (final_state s events) task ≡ true)
+    ↔ ((task < s.capacity) × IsLeftReady (s.has task) events (event_answers s events) task)
+unfolding event_answers final_state
+ready_is_left s events task = (
+  λ e.
+      let parts = and_parts (nat_lt task last.capacity) (last.has task) e in (
+        omega (arith, ltb-true task last.capacity parts.0, same),
+        histories.was_left answer_to state_after (λ s. s.capacity) (λ s k. s.has k) rests wakes keeps
+            stays woken_ready s events task parts.1,
+      ),
+  λ w. ready-member last task (omega (arith, w.0, same))
+      (histories.is_left answer_to state_after (λ s. s.capacity) (λ s k. s.has k) rests wakes keeps
+      stays woken_ready s events task w.0 w.1),
+)
+  where
+    last : PlainSet
+    last = fold state_after s events
+
+    same : last.capacity ≡ s.capacity
+    same = run_keeps state_after (λ s. s.capacity) keeps s events
 
 -- a ready task runs within the number of steps that `TasksRunInTime` states
 pub in_time : (s : PlainSet) (events : List Event) (task : ℕ) → task < s.capacity →

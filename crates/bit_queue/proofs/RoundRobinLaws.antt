@@ -1,22 +1,24 @@
 -- What follows from the round-robin machine for every list of events.
 use Rattle.std.proofs.Common.{◌≡◌, ℕ, zero, suc, ◌+◌, ◌<◌, ◌≤◌, ◌⊎◌, Bool, true, false, not, cond, ◌&&◌, ◌||◌, ◌==◌, nat_lt, Option, Some, None, List, [], ◌∷◌, inl, inr, refl, sym, ap, ◌∙◌, arith}
-use Rattle.std.specs.List.{count_by, scan, list_any}
+use Rattle.std.specs.List.{count_by, fold, scan, list_any}
 use Rattle.std.specs.Prelude.{◌↔◌, MatchOption, slice_get}
-use Rattle.std.proofs.lemmas.Bool.{cases_eq, cases_Bool, or_right, and_parts, and_right, true≢false}
+use Rattle.std.proofs.lemmas.Bool.{cases_eq, cases_Bool, ltb-true, or_right, and_parts, and_right, true≢false}
 use Rattle.bittle.specs.PlainSet.{PlainSet, count_below, size}
 use Rattle.bittle.specs.Searches.{NoneIn}
 use Rattle.bittle.proofs.CallerSets.{size_at_most}
-use Rattle.bit_queue.specs.Queue.{with_task, without_task, runs_or_idle}
-use Rattle.bit_queue.specs.QueueLaws.{IsAnsweredAt, IsWokenFirst, IsWokenBetween, is_next, RunsIn}
-use Rattle.bit_queue.specs.RoundRobin.{Round, round_at, next_in_turn, past_picked, answer_in_turn, round_after, answers_in_turn}
+use Rattle.bit_queue.specs.Queue.{is_ready, with_task, without_task, runs_or_idle}
+use Rattle.bit_queue.specs.QueueLaws.{IsAnsweredAt, IsWokenFirst, IsWokenBetween, IsLeftReady, is_next, RunsIn}
+use Rattle.bit_queue.specs.RoundRobin.{Round, round_at, next_in_turn, past_picked, answer_in_turn, round_after, answers_in_turn, final_round}
 use Rattle.bit_queue.specs.RoundRobinLaws.{comes_before, IsNextInTurn, wakes, ever_ready}
 use Rattle.bit_queue.specs.declared.Answer.{Answer}
 use Rattle.bit_queue.specs.declared.Answer.TheVariants.{Woken, NoTask, Runs, Idle}
 use Rattle.bit_queue.specs.declared.Event.{Event}
 use Rattle.bit_queue.specs.declared.Event.TheVariants.{Wake, Next}
+use Rattle.bittle.proofs.Replies.{run_keeps}
 use Rattle.bit_queue.proofs.Counting.{counts_less, counts_item}
-use Rattle.bit_queue.proofs.QueueLaws.{woken_is_no_run, woken_is_not_idle, run_is_picked, taken_out, others_stay, wakes_alone}
+use Rattle.bit_queue.proofs.QueueLaws.{woken_is_no_run, woken_is_not_idle, woken_is_no_task, run_is_no_no_task, run_is_picked, taken_out, others_stay, wakes_alone, wakes_keep, still_ready, woken_ready}
 use Rattle.bit_queue.proofs.Turns.{Comes, comes_is, comes_from, comes_not, comes_either, next_in_turn-is}
+use Rattle.bit_queue.proofs.Urgency.{ready-member}
 use Rattle.bit_queue.proofs.Histories as histories
 
 -- a task that runs is the next in turn
@@ -51,6 +53,15 @@ idle_is_none r Next = by (next_in_turn r) (next_in_turn-is r)
       λ e. absurd (true≢false (sym next.is_ready ∙ e.1 p (omega arith) next.within)),
     )
 
+-- NoTask is answered exactly if an event wakes a number at or past the number of tasks
+pub no_task_is_past : (r : Round) (event : Event) → (answer_in_turn r event ≡ NoTask)
+    ↔ ((task : ℕ) × (event ≡ Wake task) × (r.ready.capacity ≤ task))
+no_task_is_past r (Wake other) = woken_is_no_task r.ready.capacity other
+no_task_is_past r Next = (
+  λ e. absurd (run_is_no_no_task (next_in_turn r) e),
+  λ w. absurd (let same = w.1 in cc),
+)
+
 -- the facts about the machine that the lemmas of Histories.antt require
 runs_ready : (r : Round) (event : Event) (task : ℕ) → answer_in_turn r event ≡ Runs task →
     r.ready.has task ≡ true
@@ -72,6 +83,28 @@ rests_on r Next task e = inl (by (next_in_turn r))
     by None = e
     by (Some p) = and_right (not (task == p)) (r.ready.has task) e
 
+keeps : (r : Round) (event : Event) → (round_after r event).ready.capacity ≡ r.ready.capacity
+keeps r (Wake other) = wakes_keep r.ready other
+keeps r Next = by (next_in_turn r)
+  where
+    by : (o : Option ℕ) → (past_picked r o).ready.capacity ≡ r.ready.capacity
+    by None = refl
+    by (Some p) = refl
+
+stays : (r : Round) (event : Event) (task : ℕ) → r.ready.has task ≡ true →
+    (answer_in_turn r event ≡ Runs task → ⊥) → (round_after r event).ready.has task ≡ true
+stays r (Wake other) task is never = still_ready r.ready other task is
+stays r Next task is never = by (next_in_turn r) never
+  where
+    by : (o : Option ℕ) → (runs_or_idle o ≡ Runs task → ⊥) →
+        (past_picked r o).ready.has task ≡ true
+    by None never = is
+    by (Some p) never = others_stay r.ready p task (λ same. never (ap Runs (sym same))) ∙ is
+
+woken_in_turn : (r : Round) (task : ℕ) → task < r.ready.capacity →
+    (round_after r (Wake task)).ready.has task ≡ true
+woken_in_turn r task h = woken_ready r.ready task h
+
 pub answered_at : (r : Round) (events : List Event) (i : ℕ) (reply : Answer) →
     slice_get (answers_in_turn r events) i ≡ Some reply →
     IsAnsweredAt answer_in_turn round_after r events i reply
@@ -89,6 +122,30 @@ pub woken_between : (r : Round) (events : List Event) (task : ℕ) →
 unfolding answers_in_turn
 woken_between = histories.woken_between answer_in_turn round_after (λ r k. r.ready.has k)
     runs_ready rests rests_on
+
+-- a task is ready after a list of events exactly if the events and their answers leave it ready
+pub ready_is_left : (r : Round) (events : List Event) (task : ℕ) →
+    (is_ready (final_round r events).ready task ≡ true)
+    ↔ ((task < r.ready.capacity)
+    × IsLeftReady (r.ready.has task) events (answers_in_turn r events) task)
+unfolding answers_in_turn final_round
+ready_is_left r events task = (
+  λ e.
+      let parts = and_parts (nat_lt task last.ready.capacity) (last.ready.has task) e in (
+        omega (arith, ltb-true task last.ready.capacity parts.0, same),
+        histories.was_left answer_in_turn round_after (λ r. r.ready.capacity)
+            (λ r k. r.ready.has k) rests rests_on keeps stays woken_in_turn r events task parts.1,
+      ),
+  λ w. ready-member last.ready task (omega (arith, w.0, same))
+      (histories.is_left answer_in_turn round_after (λ r. r.ready.capacity) (λ r k. r.ready.has k)
+      rests rests_on keeps stays woken_in_turn r events task w.0 w.1),
+)
+  where
+    last : Round
+    last = fold round_after r events
+
+    same : last.ready.capacity ≡ r.ready.capacity
+    same = run_keeps round_after (λ r. r.ready.capacity) keeps r events
 
 -- how many tasks of a set are ahead: they come before the task in turn
 ahead : PlainSet → ℕ → ℕ → ℕ

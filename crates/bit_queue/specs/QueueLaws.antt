@@ -1,13 +1,13 @@
 -- Laws of the queue machine, for all events.
 use Rattle.std.specs.List.{count_by, fold}
-use Rattle.std.specs.Prelude.{◌≡◌, ℕ, ◌+◌, ◌<◌, ◌≤◌, ◌↔◌, Bool, true, false, nat_lt, Some, List, slice_get, take}
+use Rattle.std.specs.Prelude.{◌≡◌, ◌≢◌, ℕ, ◌+◌, ◌<◌, ◌≤◌, ◌↔◌, ◌⊎◌, Bool, true, false, nat_lt, Some, List, slice_get, take}
 use Rattle.bittle.specs.PlainSet.{PlainSet, members_below}
 use Rattle.bittle.specs.Searches.{NoneIn}
-use Rattle.bit_queue.specs.Queue.{answer_to, state_after, event_answers}
+use Rattle.bit_queue.specs.Queue.{is_ready, answer_to, state_after, event_answers, final_state}
 use Rattle.bit_queue.specs.declared.Event.{Event}
 use Rattle.bit_queue.specs.declared.Event.TheVariants.{Wake, Next}
 use Rattle.bit_queue.specs.declared.Answer.{Answer}
-use Rattle.bit_queue.specs.declared.Answer.TheVariants.{Runs, Idle}
+use Rattle.bit_queue.specs.declared.Answer.TheVariants.{NoTask, Runs, Idle}
 
 -- the number is a task, it is ready, and no ready task is more urgent
 pub record IsMostUrgent (s : PlainSet) (task : ℕ) : Type 0 where
@@ -27,6 +27,12 @@ abbrev pub IdleExactlyIfNoneIsReady : Type 0
 IdleExactlyIfNoneIsReady =
     (s : PlainSet) (event : Event)
     → (answer_to s event ≡ Idle) ↔ ((event ≡ Next) × NoneIn s 0 s.capacity)
+
+-- NoTask is answered exactly if an event wakes a number at or past the number of tasks
+abbrev pub NoTaskExactlyIfThereIsNone : Type 0
+NoTaskExactlyIfThereIsNone =
+    (s : PlainSet) (event : Event)
+    → (answer_to s event ≡ NoTask) ↔ ((task : ℕ) × (event ≡ Wake task) × (s.capacity ≤ task))
 
 -- `reply` is the answer to event i of a list, in the state that the events before it leave
 pub record IsAnsweredAt {S : Type 0} (answer : S → Event → Answer) (after : S → Event → S) (s : S)
@@ -69,6 +75,25 @@ abbrev pub TasksAreWokenBetween : Type 0
 TasksAreWokenBetween =
     (s : PlainSet) (events : List Event) (task : ℕ)
     → IsWokenBetween events (event_answers s events) task
+
+-- no answer from the place `from` on says that the task runs
+abbrev pub NeverRunsFrom : ℕ → List Answer → ℕ → Type 0
+NeverRunsFrom from answers task =
+    (j : ℕ) → from ≤ j → slice_get answers j ≢ Some (Runs task)
+
+-- the task was ready before the events and does not run, or an event wakes it and it does not run
+-- after that event
+abbrev pub IsLeftReady : Bool → List Event → List Answer → ℕ → Type 0
+IsLeftReady before events answers task =
+    ((before ≡ true) × NeverRunsFrom 0 answers task)
+    ⊎ ((k : ℕ) × (slice_get events k ≡ Some (Wake task)) × NeverRunsFrom (k + 1) answers task)
+
+-- a task is ready after a list of events exactly if the events and their answers leave it ready
+abbrev pub ReadyAreThoseNotRun : Type 0
+ReadyAreThoseNotRun =
+    (s : PlainSet) (events : List Event) (task : ℕ)
+    → (is_ready (final_state s events) task ≡ true)
+    ↔ ((task < s.capacity) × IsLeftReady (s.has task) events (event_answers s events) task)
 
 -- whether an event is a step
 abbrev pub is_next : Event → Bool

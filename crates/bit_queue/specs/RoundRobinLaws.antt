@@ -3,12 +3,13 @@ use Rattle.std.specs.List.{count_by, list_any}
 use Rattle.std.specs.Prelude.{◌≡◌, ℕ, ◌<◌, ◌≤◌, ◌↔◌, Bool, true, false, ◌&&◌, ◌||◌, ◌==◌, nat_le, nat_lt, if◌then◌else◌, Some, List, slice_get}
 use Rattle.bittle.specs.PlainSet.{PlainSet, size}
 use Rattle.bittle.specs.Searches.{NoneIn}
-use Rattle.bit_queue.specs.RoundRobin.{Round, answer_in_turn, round_after, answers_in_turn}
-use Rattle.bit_queue.specs.QueueLaws.{IsAnsweredAt, IsWokenFirst, IsWokenBetween, is_next, RunsIn}
+use Rattle.bit_queue.specs.Queue.{is_ready}
+use Rattle.bit_queue.specs.RoundRobin.{Round, answer_in_turn, round_after, answers_in_turn, final_round}
+use Rattle.bit_queue.specs.QueueLaws.{IsAnsweredAt, IsWokenFirst, IsWokenBetween, IsLeftReady, is_next, RunsIn}
 use Rattle.bit_queue.specs.declared.Event.{Event}
 use Rattle.bit_queue.specs.declared.Event.TheVariants.{Wake, Next}
 use Rattle.bit_queue.specs.declared.Answer.{Answer}
-use Rattle.bit_queue.specs.declared.Answer.TheVariants.{Runs, Idle}
+use Rattle.bit_queue.specs.declared.Answer.TheVariants.{NoTask, Runs, Idle}
 
 -- whether the task `one` comes before the task `other` in turn: the tasks from the turn on come
 -- first, in increasing order, and then those before the turn, in increasing order too
@@ -37,6 +38,13 @@ RoundIsIdleExactlyIfNoneIsReady =
     (r : Round) (event : Event)
     → (answer_in_turn r event ≡ Idle) ↔ ((event ≡ Next) × NoneIn r.ready 0 r.ready.capacity)
 
+-- NoTask is answered exactly if an event wakes a number at or past the number of tasks
+abbrev pub RoundHasNoTaskExactlyIfThereIsNone : Type 0
+RoundHasNoTaskExactlyIfThereIsNone =
+    (r : Round) (event : Event)
+    → (answer_in_turn r event ≡ NoTask)
+    ↔ ((task : ℕ) × (event ≡ Wake task) × (r.ready.capacity ≤ task))
+
 -- answer i of a list is the answer to event i in the round that the events before it leave
 abbrev pub AnswersAreOfTheirRounds : Type 0
 AnswersAreOfTheirRounds =
@@ -56,6 +64,14 @@ abbrev pub TasksAreWokenBetweenTurns : Type 0
 TasksAreWokenBetweenTurns =
     (r : Round) (events : List Event) (task : ℕ)
     → IsWokenBetween events (answers_in_turn r events) task
+
+-- a task is ready after a list of events exactly if the events and their answers leave it ready
+abbrev pub ReadyAreThoseNotRunInTurn : Type 0
+ReadyAreThoseNotRunInTurn =
+    (r : Round) (events : List Event) (task : ℕ)
+    → (is_ready (final_round r events).ready task ≡ true)
+    ↔ ((task < r.ready.capacity)
+    × IsLeftReady (r.ready.has task) events (answers_in_turn r events) task)
 
 -- whether an event wakes the task `task`
 abbrev pub wakes : ℕ → Event → Bool

@@ -5,6 +5,7 @@
 
 ghost use Rattle.bit_queue.specs.QueueLaws.{MostUrgentRuns, IdleExactlyIfNoneIsReady};
 ghost use Rattle.bit_queue.specs.QueueLaws.{AnswersAreOfTheirStates, RestingTasksAreWokenFirst};
+ghost use Rattle.bit_queue.specs.QueueLaws.{NoTaskExactlyIfThereIsNone, ReadyAreThoseNotRun};
 ghost use Rattle.bit_queue.specs.QueueLaws.{TasksAreWokenBetween, TasksRunInTime};
 
 /// States that a task which runs is ready, and that no ready task is more urgent.
@@ -15,6 +16,12 @@ pub fn most_urgent_runs()
 /// States that a step is idle exactly if no task is ready.
 pub fn idle_exactly_if_none_is_ready()
     ensures { IdleExactlyIfNoneIsReady }
+{}
+
+/// States that an event is answered `NoTask` exactly if it wakes a number at or past the number of
+/// tasks.
+pub fn no_task_exactly_if_there_is_none()
+    ensures { NoTaskExactlyIfThereIsNone }
 {}
 
 /// States that in every list, answer `i` is the answer to event `i` in the state (the set of the
@@ -32,6 +39,12 @@ pub fn resting_tasks_are_woken_first()
 /// States that a task which runs again was woken since it last ran.
 pub fn tasks_are_woken_between()
     ensures { TasksAreWokenBetween }
+{}
+
+/// States that a task is ready after a list of events exactly if it was ready before and did not
+/// run, or it was woken and did not run since.
+pub fn ready_are_those_not_run()
+    ensures { ReadyAreThoseNotRun }
 {}
 
 /// States that a ready task runs within `m + w + 1` steps. Here `m` is how many of the other ready

@@ -5,6 +5,8 @@
 
 ghost use Rattle.bit_queue.specs.RoundRobinLaws.{NextInTurnRuns, RoundIsIdleExactlyIfNoneIsReady};
 ghost use Rattle.bit_queue.specs.RoundRobinLaws.{AnswersAreOfTheirRounds};
+ghost use Rattle.bit_queue.specs.RoundRobinLaws.{RoundHasNoTaskExactlyIfThereIsNone};
+ghost use Rattle.bit_queue.specs.RoundRobinLaws.{ReadyAreThoseNotRunInTurn};
 ghost use Rattle.bit_queue.specs.RoundRobinLaws.{RestingTasksAreWokenFirstInTurn};
 ghost use Rattle.bit_queue.specs.RoundRobinLaws.{TasksAreWokenBetweenTurns, TasksRunInTheirTurn};
 ghost use Rattle.bit_queue.specs.RoundRobinLaws.{TasksRunWithinAsManySteps};
@@ -17,6 +19,12 @@ pub fn next_in_turn_runs()
 /// States that a step is idle exactly if no task is ready.
 pub fn idle_exactly_if_none_is_ready()
     ensures { RoundIsIdleExactlyIfNoneIsReady }
+{}
+
+/// States that an event is answered `NoTask` exactly if it wakes a number at or past the number of
+/// tasks.
+pub fn no_task_exactly_if_there_is_none()
+    ensures { RoundHasNoTaskExactlyIfThereIsNone }
 {}
 
 /// States that in every list, answer `i` is the answer to event `i` in the round (the ready tasks
@@ -34,6 +42,12 @@ pub fn resting_tasks_are_woken_first()
 /// States that a task which runs again was woken since it last ran.
 pub fn tasks_are_woken_between()
     ensures { TasksAreWokenBetweenTurns }
+{}
+
+/// States that a task is ready after a list of events exactly if it was ready before and did not
+/// run, or it was woken and did not run since.
+pub fn ready_are_those_not_run()
+    ensures { ReadyAreThoseNotRunInTurn }
 {}
 
 /// States that a ready task runs within as many steps as there are tasks that are ready at first or
