@@ -35,6 +35,12 @@ runs_in_turn r Next task = λ e.
     by None none e = absurd (cc)
     by (Some p) next e = let same : p ≡ task = cc in rw same at next
 
+-- the task that was picked comes before any other ready one
+picked_comes : (r : Round) (picked task : ℕ) → IsNextInTurn r picked → task < r.ready.capacity →
+    r.ready.has task ≡ true → (picked ≡ task → ⊥) → Comes r.turn picked task
+picked_comes r picked task next h ready apart = comes_either r.turn picked task apart
+    (λ c. true≢false (sym ready ∙ next.none_before task h (comes_is r.turn task picked c)))
+
 -- a step is idle exactly if no task is ready
 pub idle_is_none : (r : Round) (event : Event) → (answer_in_turn r event ≡ Idle)
     ↔ ((event ≡ Next) × NoneIn r.ready 0 r.ready.capacity)
@@ -191,12 +197,6 @@ ahead_less s turn first task h is comes =
     still k (inr (past, inl from)) (inr (over, inl up)) = inr (past, inl (omega arith))
     still k (inr (past, inr below)) (inr (over, inl up)) = absurd (omega arith)
     still k (inr c) (inr (over, inr low)) = inr (c.0, inr low)
-
--- the task that was picked comes before any other ready one
-picked_comes : (r : Round) (picked task : ℕ) → IsNextInTurn r picked → task < r.ready.capacity →
-    r.ready.has task ≡ true → (picked ≡ task → ⊥) → Comes r.turn picked task
-picked_comes r picked task next h ready apart = comes_either r.turn picked task apart
-    (λ c. true≢false (sym ready ∙ next.none_before task h (comes_is r.turn task picked c)))
 
 -- if s has all tasks that may be ready, at most the tasks of s that are ahead run before a ready
 -- task
