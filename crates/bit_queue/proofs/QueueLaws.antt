@@ -13,7 +13,7 @@ use Rattle.bit_queue.specs.declared.Event.{Event}
 use Rattle.bit_queue.specs.declared.Event.TheVariants.{Wake, Next}
 use Rattle.bittle.proofs.Replies.{run_keeps}
 use Rattle.bit_queue.proofs.Counting.{counts_less, counts_with, counts_item}
-use Rattle.bit_queue.proofs.Urgency.{most_urgent-is, ready-member}
+use Rattle.bit_queue.proofs.Urgency.{most_urgent-is, most_urgent-of, ready-member}
 use Rattle.bit_queue.proofs.Histories as histories
 
 pub woken_is_no_run : (b : Bool) (task : ℕ) → cond b Woken NoTask ≡ Runs task → ⊥
@@ -61,6 +61,18 @@ runs_most_urgent s Next task = λ e.
         o ≡ Some task → IsMostUrgent s task
     by None none e = absurd (cc)
     by (Some p) urgent e = let same : p ≡ task = cc in rw same at urgent
+
+-- a task runs exactly if the event is a step and the task is the most urgent one
+pub runs_is_most_urgent : (s : PlainSet) (event : Event) (task : ℕ) →
+    (answer_to s event ≡ Runs task) ↔ ((event ≡ Next) × IsMostUrgent s task)
+runs_is_most_urgent s (Wake other) task = (
+  λ e. absurd (woken_is_no_run (nat_lt other s.capacity) task e),
+  λ is. absurd (let same = is.0 in cc),
+)
+runs_is_most_urgent s Next task = (
+  λ e. (refl, runs_most_urgent s Next task e),
+  λ is. ap runs_or_idle (most_urgent-of s task is.1),
+)
 
 -- a step is idle exactly if no task is ready
 pub idle_is_none : (s : PlainSet) (event : Event) → (answer_to s event ≡ Idle)

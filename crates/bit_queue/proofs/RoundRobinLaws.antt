@@ -41,6 +41,33 @@ picked_comes : (r : Round) (picked task : ℕ) → IsNextInTurn r picked → tas
 picked_comes r picked task next h ready apart = comes_either r.turn picked task apart
     (λ c. true≢false (sym ready ∙ next.none_before task h (comes_is r.turn task picked c)))
 
+-- `next_in_turn` finds the task that is the next in turn
+next_in_turn-of : (r : Round) (task : ℕ) → IsNextInTurn r task → next_in_turn r ≡ Some task
+next_in_turn-of r task is = by (next_in_turn r) (next_in_turn-is r)
+  where
+    by : (o : Option ℕ) → MatchOption o (NoneIn r.ready 0 r.ready.capacity) (IsNextInTurn r) →
+        o ≡ Some task
+    by None none = absurd (true≢false (sym is.is_ready ∙ none task (omega arith) is.within))
+    by (Some p) next = elim (cases_eq p task) [
+      | inl same ↦ ap Some same
+      | inr apart ↦
+          let comes = picked_comes r p task next is.within is.is_ready apart in
+          absurd (true≢false (sym next.is_ready
+          ∙ is.none_before p next.within (comes_is r.turn p task comes)))
+    ]
+
+-- a task runs exactly if the event is a step and the task is the next in turn
+pub runs_is_next_in_turn : (r : Round) (event : Event) (task : ℕ) →
+    (answer_in_turn r event ≡ Runs task) ↔ ((event ≡ Next) × IsNextInTurn r task)
+runs_is_next_in_turn r (Wake other) task = (
+  λ e. absurd (woken_is_no_run (nat_lt other r.ready.capacity) task e),
+  λ is. absurd (let same = is.0 in cc),
+)
+runs_is_next_in_turn r Next task = (
+  λ e. (refl, runs_in_turn r Next task e),
+  λ is. ap runs_or_idle (next_in_turn-of r task is.1),
+)
+
 -- a step is idle exactly if no task is ready
 pub idle_is_none : (r : Round) (event : Event) → (answer_in_turn r event ≡ Idle)
     ↔ ((event ≡ Next) × NoneIn r.ready 0 r.ready.capacity)

@@ -57,6 +57,15 @@ most_urgent-first s (Some p) first = by (most_urgent s) (most_urgent-is s)
     by None all = absurd (true≢false (sym found.is_ready ∙ all p (omega arith) found.within))
     by (Some q) urgent = ap Some (one_most_urgent s p q found urgent)
 
+-- `most_urgent` finds the task that is the most urgent one
+pub most_urgent-of : (s : PlainSet) (task : ℕ) → IsMostUrgent s task → most_urgent s ≡ Some task
+most_urgent-of s task urgent = sym (most_urgent-first s (Some task) (
+  omega arith,
+  urgent.within,
+  urgent.is_ready,
+  λ k _ l. urgent.none_above k l,
+))
+
 -- so does a search up to `end`, if that is the number of tasks
 pub most_urgent-found : (s : PlainSet) (end : ℕ) (found : Option ℕ) → end ≡ s.capacity →
     IsFirstIn s 0 end found → found ≡ most_urgent s

@@ -15,12 +15,11 @@ pub record IsMostUrgent (s : PlainSet) (task : ℕ) : Type 0 where
   pub is_ready : s.has task ≡ true
   pub none_above : (k : ℕ) → k < task → s.has k ≡ false
 
--- each task that runs is the most urgent one
+-- a task runs exactly if the event is a step and the task is the most urgent one
 abbrev pub MostUrgentRuns : Type 0
 MostUrgentRuns =
     (s : PlainSet) (event : Event) (task : ℕ)
-    → answer_to s event ≡ Runs task
-    → IsMostUrgent s task
+    → (answer_to s event ≡ Runs task) ↔ ((event ≡ Next) × IsMostUrgent s task)
 
 -- Idle is answered exactly if a step finds no task ready
 abbrev pub IdleExactlyIfNoneIsReady : Type 0

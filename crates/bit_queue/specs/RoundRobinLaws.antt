@@ -25,12 +25,11 @@ pub record IsNextInTurn (r : Round) (task : ℕ) : Type 0 where
   pub none_before : (k : ℕ) → k < r.ready.capacity → comes_before r.turn k task ≡ true →
       r.ready.has k ≡ false
 
--- each task that runs is the next in turn
+-- a task runs exactly if the event is a step and the task is the next in turn
 abbrev pub NextInTurnRuns : Type 0
 NextInTurnRuns =
     (r : Round) (event : Event) (task : ℕ)
-    → answer_in_turn r event ≡ Runs task
-    → IsNextInTurn r task
+    → (answer_in_turn r event ≡ Runs task) ↔ ((event ≡ Next) × IsNextInTurn r task)
 
 -- Idle is answered exactly if a step finds no task ready
 abbrev pub RoundIsIdleExactlyIfNoneIsReady : Type 0

@@ -8,7 +8,8 @@ ghost use Rattle.bit_queue.specs.QueueLaws.{AnswersAreOfTheirStates, RestingTask
 ghost use Rattle.bit_queue.specs.QueueLaws.{NoTaskExactlyIfThereIsNone, ReadyAreThoseNotRun};
 ghost use Rattle.bit_queue.specs.QueueLaws.{TasksAreWokenBetween, TasksRunInTime};
 
-/// States that a task which runs is ready, and that no ready task is more urgent.
+/// States that a task runs exactly if the event is a step, the task is ready, and no ready task is
+/// more urgent.
 pub fn most_urgent_runs()
     ensures { MostUrgentRuns }
 {}

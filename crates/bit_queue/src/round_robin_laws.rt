@@ -11,7 +11,8 @@ ghost use Rattle.bit_queue.specs.RoundRobinLaws.{RestingTasksAreWokenFirstInTurn
 ghost use Rattle.bit_queue.specs.RoundRobinLaws.{TasksAreWokenBetweenTurns, TasksRunInTheirTurn};
 ghost use Rattle.bit_queue.specs.RoundRobinLaws.{TasksRunWithinAsManySteps};
 
-/// States that a task which runs is ready, and that no ready task comes before it in turn.
+/// States that a task runs exactly if the event is a step, the task is ready, and no ready task
+/// comes before it in turn.
 pub fn next_in_turn_runs()
     ensures { NextInTurnRuns }
 {}
