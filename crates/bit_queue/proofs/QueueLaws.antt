@@ -1,13 +1,12 @@
 -- What follows from the queue machine for every list of events.
 use Rattle.std.proofs.Common.{◌≡◌, ℕ, zero, suc, ◌+◌, ◌<◌, ◌≤◌, ◌⊎◌, Bool, true, false, not, cond, ◌&&◌, ◌||◌, ◌==◌, nat_lt, Option, Some, None, List, [], ◌∷◌, inl, inr, refl, sym, ap, ◌∙◌, arith}
 use Rattle.std.specs.List.{count_by, fold, scan}
-use Rattle.std.specs.Prelude.{◌↔◌, MatchOption, slice_get}
+use Rattle.std.specs.Prelude.{◌↔◌, MatchOption, slice_get, take, option_map}
 use Rattle.std.proofs.lemmas.Bool.{cases_eq, cases_Bool, cases_lt, lt-ltb, ltb-true, le-ltb, eq-eqb, ne_eqb, or_right, and_parts, and_right, true≢false}
 use Rattle.bittle.specs.PlainSet.{PlainSet, members_below}
 use Rattle.bittle.specs.Searches.{NoneIn}
 use Rattle.bit_queue.specs.Queue.{is_ready, most_urgent, with_task, without_task, with_woken, runs_or_idle, without_picked, answer_to, state_after, event_answers, final_state}
-use Rattle.bit_queue.specs.QueueLaws.{IsMostUrgent, IsAnsweredAt, IsWokenFirst, IsWokenBetween, IsLeftReady, is_next, wakes_more_urgent, RunsIn}
-use Rattle.bit_queue.specs.declared.Answer.{Answer}
+use Rattle.bit_queue.specs.QueueLaws.{IsMostUrgent, IsWokenFirst, IsWokenBetween, IsLeftReady, is_next, wakes_more_urgent, RunsIn}
 use Rattle.bit_queue.specs.declared.Answer.TheVariants.{Woken, NoTask, Runs, Idle}
 use Rattle.bit_queue.specs.declared.Event.{Event}
 use Rattle.bit_queue.specs.declared.Event.TheVariants.{Wake, Next}
@@ -183,10 +182,10 @@ stays s Next task is never = by (most_urgent s) never
     by None never = is
     by (Some p) never = others_stay s p task (λ same. never (ap Runs (sym same))) ∙ is
 
-pub answered_at : (s : PlainSet) (events : List Event) (i : ℕ) (reply : Answer) →
-    slice_get (event_answers s events) i ≡ Some reply →
-    IsAnsweredAt answer_to state_after s events i reply
-unfolding event_answers
+pub answered_at : (s : PlainSet) (events : List Event) (i : ℕ) →
+    slice_get (event_answers s events) i
+    ≡ option_map (answer_to (final_state s (take i events))) (slice_get events i)
+unfolding event_answers final_state
 answered_at = histories.answered_at answer_to state_after
 
 pub woken_first : (s : PlainSet) (events : List Event) (task : ℕ) → s.has task ≡ false →

@@ -1,16 +1,15 @@
 -- What follows from the round-robin machine for every list of events.
 use Rattle.std.proofs.Common.{◌≡◌, ℕ, zero, suc, ◌+◌, ◌<◌, ◌≤◌, ◌⊎◌, Bool, true, false, not, cond, ◌&&◌, ◌||◌, ◌==◌, nat_lt, Option, Some, None, List, [], ◌∷◌, inl, inr, refl, sym, ap, ◌∙◌, arith}
 use Rattle.std.specs.List.{count_by, fold, scan, list_any}
-use Rattle.std.specs.Prelude.{◌↔◌, MatchOption, slice_get}
+use Rattle.std.specs.Prelude.{◌↔◌, MatchOption, slice_get, take, option_map}
 use Rattle.std.proofs.lemmas.Bool.{cases_eq, cases_Bool, ltb-true, or_right, and_parts, and_right, true≢false}
 use Rattle.bittle.specs.PlainSet.{PlainSet, count_below, size}
 use Rattle.bittle.specs.Searches.{NoneIn}
 use Rattle.bittle.proofs.CallerSets.{size_at_most}
 use Rattle.bit_queue.specs.Queue.{is_ready, with_task, without_task, runs_or_idle}
-use Rattle.bit_queue.specs.QueueLaws.{IsAnsweredAt, IsWokenFirst, IsWokenBetween, IsLeftReady, is_next, RunsIn}
+use Rattle.bit_queue.specs.QueueLaws.{IsWokenFirst, IsWokenBetween, IsLeftReady, is_next, RunsIn}
 use Rattle.bit_queue.specs.RoundRobin.{Round, round_at, next_in_turn, past_picked, answer_in_turn, round_after, answers_in_turn, final_round}
 use Rattle.bit_queue.specs.RoundRobinLaws.{comes_before, IsNextInTurn, wakes, ever_ready}
-use Rattle.bit_queue.specs.declared.Answer.{Answer}
 use Rattle.bit_queue.specs.declared.Answer.TheVariants.{Woken, NoTask, Runs, Idle}
 use Rattle.bit_queue.specs.declared.Event.{Event}
 use Rattle.bit_queue.specs.declared.Event.TheVariants.{Wake, Next}
@@ -138,10 +137,10 @@ woken_in_turn : (r : Round) (task : ℕ) → task < r.ready.capacity →
     (round_after r (Wake task)).ready.has task ≡ true
 woken_in_turn r task h = woken_ready r.ready task h
 
-pub answered_at : (r : Round) (events : List Event) (i : ℕ) (reply : Answer) →
-    slice_get (answers_in_turn r events) i ≡ Some reply →
-    IsAnsweredAt answer_in_turn round_after r events i reply
-unfolding answers_in_turn
+pub answered_at : (r : Round) (events : List Event) (i : ℕ) →
+    slice_get (answers_in_turn r events) i
+    ≡ option_map (answer_in_turn (final_round r (take i events))) (slice_get events i)
+unfolding answers_in_turn final_round
 answered_at = histories.answered_at answer_in_turn round_after
 
 pub woken_first : (r : Round) (events : List Event) (task : ℕ) → r.ready.has task ≡ false →

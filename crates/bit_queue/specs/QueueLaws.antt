@@ -1,9 +1,9 @@
 -- Laws of the queue machine, for all events.
-use Rattle.std.specs.List.{count_by, fold}
-use Rattle.std.specs.Prelude.{◌≡◌, ◌≢◌, ℕ, ◌+◌, ◌<◌, ◌≤◌, ◌↔◌, ◌⊎◌, Bool, true, false, nat_lt, Some, List, slice_get, take}
+use Rattle.std.specs.List.{count_by}
+use Rattle.std.specs.Prelude.{◌≡◌, ◌≢◌, ℕ, ◌+◌, ◌<◌, ◌≤◌, ◌↔◌, ◌⊎◌, Bool, true, false, nat_lt, Some, List, slice_get, take, option_map}
 use Rattle.bittle.specs.PlainSet.{PlainSet, members_below}
 use Rattle.bittle.specs.Searches.{NoneIn}
-use Rattle.bit_queue.specs.Queue.{is_ready, answer_to, state_after, event_answers, final_state}
+use Rattle.bit_queue.specs.Queue.{is_ready, answer_to, event_answers, final_state}
 use Rattle.bit_queue.specs.declared.Event.{Event}
 use Rattle.bit_queue.specs.declared.Event.TheVariants.{Wake, Next}
 use Rattle.bit_queue.specs.declared.Answer.{Answer}
@@ -33,18 +33,13 @@ NoTaskExactlyIfThereIsNone =
     (s : PlainSet) (event : Event)
     → (answer_to s event ≡ NoTask) ↔ ((task : ℕ) × (event ≡ Wake task) × (s.capacity ≤ task))
 
--- `reply` is the answer to event i of a list, in the state that the events before it leave
-pub record IsAnsweredAt {S : Type 0} (answer : S → Event → Answer) (after : S → Event → S) (s : S)
-    (events : List Event) (i : ℕ) (reply : Answer) : Type 0 where
-  pub event : Event
-  pub asked : slice_get events i ≡ Some event
-  pub answered : reply ≡ answer (fold after s (take i events)) event
-
+-- there is an answer i exactly if there is an event i: the answer to this event in the state that
+-- the events before it leave
 abbrev pub AnswersAreOfTheirStates : Type 0
 AnswersAreOfTheirStates =
-    (s : PlainSet) (events : List Event) (i : ℕ) (reply : Answer)
-    → slice_get (event_answers s events) i ≡ Some reply
-    → IsAnsweredAt answer_to state_after s events i reply
+    (s : PlainSet) (events : List Event) (i : ℕ)
+    → slice_get (event_answers s events) i
+    ≡ option_map (answer_to (final_state s (take i events))) (slice_get events i)
 
 -- a task is woken before it runs
 abbrev pub IsWokenFirst : List Event → List Answer → ℕ → Type 0

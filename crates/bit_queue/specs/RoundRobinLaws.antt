@@ -1,14 +1,13 @@
 -- Laws of the round-robin machine, for all events.
 use Rattle.std.specs.List.{count_by, list_any}
-use Rattle.std.specs.Prelude.{◌≡◌, ℕ, ◌<◌, ◌≤◌, ◌↔◌, Bool, true, false, ◌&&◌, ◌||◌, ◌==◌, nat_le, nat_lt, if◌then◌else◌, Some, List, slice_get}
+use Rattle.std.specs.Prelude.{◌≡◌, ℕ, ◌<◌, ◌≤◌, ◌↔◌, Bool, true, false, ◌&&◌, ◌||◌, ◌==◌, nat_le, nat_lt, if◌then◌else◌, List, slice_get, take, option_map}
 use Rattle.bittle.specs.PlainSet.{PlainSet, size}
 use Rattle.bittle.specs.Searches.{NoneIn}
 use Rattle.bit_queue.specs.Queue.{is_ready}
-use Rattle.bit_queue.specs.RoundRobin.{Round, answer_in_turn, round_after, answers_in_turn, final_round}
-use Rattle.bit_queue.specs.QueueLaws.{IsAnsweredAt, IsWokenFirst, IsWokenBetween, IsLeftReady, is_next, RunsIn}
+use Rattle.bit_queue.specs.RoundRobin.{Round, answer_in_turn, answers_in_turn, final_round}
+use Rattle.bit_queue.specs.QueueLaws.{IsWokenFirst, IsWokenBetween, IsLeftReady, is_next, RunsIn}
 use Rattle.bit_queue.specs.declared.Event.{Event}
 use Rattle.bit_queue.specs.declared.Event.TheVariants.{Wake, Next}
-use Rattle.bit_queue.specs.declared.Answer.{Answer}
 use Rattle.bit_queue.specs.declared.Answer.TheVariants.{NoTask, Runs, Idle}
 
 -- whether the task `one` comes before the task `other` in turn: the tasks from the turn on come
@@ -44,12 +43,13 @@ RoundHasNoTaskExactlyIfThereIsNone =
     → (answer_in_turn r event ≡ NoTask)
     ↔ ((task : ℕ) × (event ≡ Wake task) × (r.ready.capacity ≤ task))
 
--- answer i of a list is the answer to event i in the round that the events before it leave
+-- there is an answer i exactly if there is an event i: the answer to this event in the round that
+-- the events before it leave
 abbrev pub AnswersAreOfTheirRounds : Type 0
 AnswersAreOfTheirRounds =
-    (r : Round) (events : List Event) (i : ℕ) (reply : Answer)
-    → slice_get (answers_in_turn r events) i ≡ Some reply
-    → IsAnsweredAt answer_in_turn round_after r events i reply
+    (r : Round) (events : List Event) (i : ℕ)
+    → slice_get (answers_in_turn r events) i
+    ≡ option_map (answer_in_turn (final_round r (take i events))) (slice_get events i)
 
 -- a task that is not ready runs only after it was woken
 abbrev pub RestingTasksAreWokenFirstInTurn : Type 0

@@ -25,9 +25,9 @@ pub fn no_task_exactly_if_there_is_none()
     ensures { NoTaskExactlyIfThereIsNone }
 {}
 
-/// States that in every list, answer `i` is the answer to event `i` in the state (the set of the
-/// ready tasks) that the earlier events leave. So what holds of one answer in any state holds of
-/// each answer of the list.
+/// States that in every list there is an answer `i` exactly if there is an event `i`. It is the
+/// answer to this event in the state (the set of the ready tasks) that the earlier events leave. So
+/// what holds of one answer in any state holds of each answer of the list.
 pub fn answers_are_of_their_states()
     ensures { AnswersAreOfTheirStates }
 {}

@@ -28,9 +28,9 @@ pub fn no_task_exactly_if_there_is_none()
     ensures { RoundHasNoTaskExactlyIfThereIsNone }
 {}
 
-/// States that in every list, answer `i` is the answer to event `i` in the round (the ready tasks
-/// and the turn) that the earlier events leave. So what holds of one answer in any round holds of
-/// each answer of the list.
+/// States that in every list there is an answer `i` exactly if there is an event `i`. It is the
+/// answer to this event in the round (the ready tasks and the turn) that the earlier events leave.
+/// So what holds of one answer in any round holds of each answer of the list.
 pub fn answers_are_of_their_rounds()
     ensures { AnswersAreOfTheirRounds }
 {}
