@@ -2,7 +2,7 @@
 use Rattle.std.proofs.Common.{◌≡◌, ℕ, zero, suc, ◌+◌, ◌<◌, ◌≤◌, ◌⊎◌, Bool, true, false, not, cond, ◌&&◌, ◌||◌, ◌==◌, nat_lt, Option, Some, None, List, [], ◌∷◌, inl, inr, refl, sym, ap, ◌∙◌, arith}
 use Rattle.std.specs.List.{count_by, fold, scan, list_any}
 use Rattle.std.specs.Prelude.{◌↔◌, MatchOption, slice_get, take, option_map}
-use Rattle.std.proofs.lemmas.Bool.{cases_eq, cases_Bool, ltb-true, or_right, and_parts, and_right, true≢false}
+use Rattle.std.proofs.lemmas.Bool.{cases_eq, cases_Bool, cases_lt, ltb-true, or_right, and_parts, and_right, true≢false}
 use Rattle.bittle.specs.PlainSet.{PlainSet, count_below, size}
 use Rattle.bittle.specs.Searches.{NoneIn}
 use Rattle.bittle.proofs.CallerSets.{size_at_most}
@@ -223,6 +223,116 @@ ahead_less s turn first task h is comes =
     still k (inr (past, inl from)) (inr (over, inl up)) = inr (past, inl (omega arith))
     still k (inr (past, inr below)) (inr (over, inl up)) = absurd (omega arith)
     still k (inr c) (inr (over, inr low)) = inr (c.0, inr low)
+
+-- a task still comes before another once the turn is past a task that came before both
+past_turn : (turn p task other : ℕ) → Comes turn p task → Comes turn task other →
+    Comes (p + 1) task other
+past_turn turn p task other (inl c) (inl d) = inl (omega (arith, c.1), d.1)
+past_turn turn p task other (inl c) (inr (past, inl from)) =
+    inr (omega (arith, past, c.0), inl (omega (arith, c.1)))
+past_turn turn p task other (inl c) (inr (past, inr low)) = absurd (omega (arith, c.0, c.1))
+past_turn turn p task other (inr c) (inl d) = absurd (omega (arith, c.0, d.0))
+past_turn turn p task other (inr c) (inr (past, inl from)) = absurd (omega (arith, c.0))
+past_turn turn p task other (inr (below, inl from)) (inr (past, inr low)) =
+    inr (omega arith, inr low)
+past_turn turn p task other (inr (below, inr less)) (inr (past, inr low)) = inl (omega arith, low)
+
+-- once a task ran, each other task comes before it
+comes_after_run : (p task other : ℕ) → p ≡ other → (p ≡ task → ⊥) → Comes (p + 1) task other
+comes_after_run p task other same apart = elim (cases_lt task p) [
+  | inl l ↦ inr (omega (arith, same), inr (omega (arith, same)))
+  | inr g ↦ elim (cases_lt p task) [
+    | inl m ↦ inr (omega (arith, same), inl (omega arith))
+    | inr n ↦ absurd (apart (omega arith))
+  ]
+]
+
+-- a ready task that comes before another runs before it
+runs_before : (r : Round) (events : List Event) (task other j : ℕ) → task < r.ready.capacity →
+    r.ready.has task ≡ true → Comes r.turn task other →
+    slice_get (scan round_after answer_in_turn r events) j ≡ Some (Runs other) →
+    (k : ℕ) × (k < j) × (slice_get (scan round_after answer_in_turn r events) k ≡ Some (Runs task))
+runs_before r [] task other j h ready comes e = absurd (cc)
+runs_before r (Wake woken ∷ events) task other zero h ready comes e =
+    absurd (woken_is_no_run (nat_lt woken r.ready.capacity) other (cc))
+runs_before r (Wake woken ∷ events) task other (suc j) h ready comes e =
+    let later = runs_before (round_after r (Wake woken)) events task other j
+    (omega (arith, h, wakes_keep r.ready woken)) (still_ready r.ready woken task ready) comes e in
+    (suc later.0, omega (arith, later.1), later.2)
+runs_before r (Next ∷ events) task other j h ready comes e =
+    by (λ t. runs_before t events task other) (next_in_turn r) (next_in_turn-is r) j e
+  where
+    by : ((t : Round) (i : ℕ) → task < t.ready.capacity → t.ready.has task ≡ true →
+        Comes t.turn task other →
+        slice_get (scan round_after answer_in_turn t events) i ≡ Some (Runs other) →
+        (k : ℕ) × (k < i)
+        × (slice_get (scan round_after answer_in_turn t events) k ≡ Some (Runs task))) →
+        (o : Option ℕ) → MatchOption o (NoneIn r.ready 0 r.ready.capacity) (IsNextInTurn r) →
+        (i : ℕ) → slice_get (runs_or_idle o
+        ∷ scan round_after answer_in_turn (past_picked r o) events) i ≡ Some (Runs other) →
+        (k : ℕ) × (k < i) × (slice_get (runs_or_idle o
+        ∷ scan round_after answer_in_turn (past_picked r o) events) k ≡ Some (Runs task))
+    by later None none i e = absurd (true≢false (sym ready ∙ none task (omega arith) h))
+    by later (Some p) next zero e =
+        let same : p ≡ other = cc in
+        absurd (true≢false (sym ready ∙ next.none_before task h
+        (ap (comes_before r.turn task) same ∙ comes_is r.turn task other comes)))
+    by later (Some p) next (suc i) e = elim (cases_eq p task) [
+      | inl same ↦ (zero, omega arith, ap (λ k. Some (Runs k)) same)
+      | inr apart ↦
+          let first = picked_comes r p task next h ready apart in
+          let run = later (round_at (without_task r.ready p) (p + 1)) i h
+          (others_stay r.ready p task (λ e. apart (sym e)) ∙ ready)
+          (past_turn r.turn p task other first comes) e in
+          (suc run.0, omega (arith, run.1), run.2)
+    ]
+
+-- a ready task runs before any task runs again
+pub runs_before_twice : (r : Round) (events : List Event) (task other i j : ℕ) →
+    task < r.ready.capacity → r.ready.has task ≡ true → i < j →
+    slice_get (answers_in_turn r events) i ≡ Some (Runs other) →
+    slice_get (answers_in_turn r events) j ≡ Some (Runs other) →
+    (k : ℕ) × (k < j) × (slice_get (answers_in_turn r events) k ≡ Some (Runs task))
+unfolding answers_in_turn
+runs_before_twice r events task other i zero h ready l a b = absurd (omega arith)
+runs_before_twice r [] task other i (suc j) h ready l a b = absurd (cc)
+runs_before_twice r (Wake woken ∷ events) task other zero (suc j) h ready l a b =
+    absurd (woken_is_no_run (nat_lt woken r.ready.capacity) other (cc))
+runs_before_twice r (Wake woken ∷ events) task other (suc i) (suc j) h ready l a b =
+    let later = runs_before_twice (round_after r (Wake woken)) events task other i j
+    (omega (arith, h, wakes_keep r.ready woken)) (still_ready r.ready woken task ready)
+    (omega arith) a b in (suc later.0, omega (arith, later.1), later.2)
+runs_before_twice r (Next ∷ events) task other i (suc j) h ready l a b =
+    by (λ t. runs_before_twice t events task other) (next_in_turn r) (next_in_turn-is r) i l a b
+  where
+    by : ((t : Round) (i j : ℕ) → task < t.ready.capacity → t.ready.has task ≡ true → i < j →
+        slice_get (scan round_after answer_in_turn t events) i ≡ Some (Runs other) →
+        slice_get (scan round_after answer_in_turn t events) j ≡ Some (Runs other) →
+        (k : ℕ) × (k < j)
+        × (slice_get (scan round_after answer_in_turn t events) k ≡ Some (Runs task))) →
+        (o : Option ℕ) → MatchOption o (NoneIn r.ready 0 r.ready.capacity) (IsNextInTurn r) →
+        (i : ℕ) → i < suc j → slice_get (runs_or_idle o
+        ∷ scan round_after answer_in_turn (past_picked r o) events) i ≡ Some (Runs other) →
+        slice_get (scan round_after answer_in_turn (past_picked r o) events) j ≡ Some (Runs other) →
+        (k : ℕ) × (k < suc j) × (slice_get (runs_or_idle o
+        ∷ scan round_after answer_in_turn (past_picked r o) events) k ≡ Some (Runs task))
+    by later None none i l a b = absurd (true≢false (sym ready ∙ none task (omega arith) h))
+    by later (Some p) next zero l a b = elim (cases_eq p task) [
+      | inl is ↦ (zero, omega arith, ap (λ k. Some (Runs k)) is)
+      | inr apart ↦
+          let same : p ≡ other = cc in
+          let run = runs_before (round_at (without_task r.ready p) (p + 1)) events task other j h
+          (others_stay r.ready p task (λ e. apart (sym e)) ∙ ready)
+          (comes_after_run p task other same apart) b in
+          (suc run.0, omega (arith, run.1), run.2)
+    ]
+    by later (Some p) next (suc i) l a b = elim (cases_eq p task) [
+      | inl is ↦ (zero, omega arith, ap (λ k. Some (Runs k)) is)
+      | inr apart ↦
+          let run = later (round_at (without_task r.ready p) (p + 1)) i j h
+          (others_stay r.ready p task (λ e. apart (sym e)) ∙ ready) (omega arith) a b in
+          (suc run.0, omega (arith, run.1), run.2)
+    ]
 
 -- if s has all tasks that may be ready, at most the tasks of s that are ahead run before a ready
 -- task

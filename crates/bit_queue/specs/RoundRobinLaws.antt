@@ -1,6 +1,6 @@
 -- Laws of the round-robin machine, for all events.
 use Rattle.std.specs.List.{count_by, list_any}
-use Rattle.std.specs.Prelude.{◌≡◌, ℕ, ◌<◌, ◌≤◌, ◌↔◌, Bool, true, false, ◌&&◌, ◌||◌, ◌==◌, nat_le, nat_lt, if◌then◌else◌, List, slice_get, take, option_map}
+use Rattle.std.specs.Prelude.{◌≡◌, ℕ, ◌<◌, ◌≤◌, ◌↔◌, Bool, true, false, ◌&&◌, ◌||◌, ◌==◌, nat_le, nat_lt, if◌then◌else◌, Some, List, slice_get, take, option_map}
 use Rattle.bittle.specs.PlainSet.{PlainSet, size}
 use Rattle.bittle.specs.Searches.{NoneIn}
 use Rattle.bit_queue.specs.Queue.{is_ready}
@@ -71,6 +71,17 @@ ReadyAreThoseNotRunInTurn =
     → (is_ready (final_round r events).ready task ≡ true)
     ↔ ((task < r.ready.capacity)
     × IsLeftReady (r.ready.has task) events (answers_in_turn r events) task)
+
+-- no task runs twice while a ready task waits: a ready task runs before any task runs again
+abbrev pub NoTaskRunsTwiceBeforeAReadyTask : Type 0
+NoTaskRunsTwiceBeforeAReadyTask =
+    (r : Round) (events : List Event) (task other i j : ℕ)
+    → task < r.ready.capacity
+    → r.ready.has task ≡ true
+    → i < j
+    → slice_get (answers_in_turn r events) i ≡ Some (Runs other)
+    → slice_get (answers_in_turn r events) j ≡ Some (Runs other)
+    → (k : ℕ) × (k < j) × (slice_get (answers_in_turn r events) k ≡ Some (Runs task))
 
 -- whether an event wakes the task `task`
 abbrev pub wakes : ℕ → Event → Bool

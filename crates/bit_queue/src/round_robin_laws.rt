@@ -7,6 +7,7 @@ ghost use Rattle.bit_queue.specs.RoundRobinLaws.{NextInTurnRuns, RoundIsIdleExac
 ghost use Rattle.bit_queue.specs.RoundRobinLaws.{AnswersAreOfTheirRounds};
 ghost use Rattle.bit_queue.specs.RoundRobinLaws.{RoundHasNoTaskExactlyIfThereIsNone};
 ghost use Rattle.bit_queue.specs.RoundRobinLaws.{ReadyAreThoseNotRunInTurn};
+ghost use Rattle.bit_queue.specs.RoundRobinLaws.{NoTaskRunsTwiceBeforeAReadyTask};
 ghost use Rattle.bit_queue.specs.RoundRobinLaws.{RestingTasksAreWokenFirstInTurn};
 ghost use Rattle.bit_queue.specs.RoundRobinLaws.{TasksAreWokenBetweenTurns, TasksRunInTheirTurn};
 ghost use Rattle.bit_queue.specs.RoundRobinLaws.{TasksRunWithinAsManySteps};
@@ -49,6 +50,12 @@ pub fn tasks_are_woken_between()
 /// run, or it was woken and did not run since.
 pub fn ready_are_those_not_run()
     ensures { ReadyAreThoseNotRunInTurn }
+{}
+
+/// States that no task runs twice while a ready task waits: a ready task runs before another task
+/// runs for the second time.
+pub fn no_task_runs_twice_before_a_ready_task()
+    ensures { NoTaskRunsTwiceBeforeAReadyTask }
 {}
 
 /// States that a ready task runs within as many steps as there are tasks that are ready at first or
