@@ -1,10 +1,11 @@
 -- The most urgent ready task, and how a search finds it.
-use Rattle.std.proofs.Common.{◌≡◌, ℕ, ◌<◌, ◌↔◌, Bool, true, false, not, cond, ◌&&◌, ◌||◌, ◌==◌, nat_lt, Option, Some, None, List, [], ◌∷◌, inl, inr, refl, sym, ap, ◌∙◌, subst, arith}
+use Rattle.std.proofs.Common.{◌≡◌, ℕ, ◌+◌, ◌<◌, ◌↔◌, Bool, true, false, not, cond, ◌&&◌, ◌||◌, ◌==◌, nat_lt, Option, Some, None, List, [], ◌∷◌, inl, inr, refl, sym, ap, ◌∙◌, subst, arith}
 use Rattle.std.proofs.lemmas.Bool.{cases_lt, eq-eqb, eqb-true, ne_eqb, lt-ltb, and_right, true≢false}
 use Rattle.std.specs.Prelude.{MatchOption, IsTrue, slice_get}
 use Rattle.bittle.specs.PlainSet.{PlainSet, ascending, contains, with_index, without_index, size}
 use Rattle.bittle.specs.Searches.{NoneIn, IsFirstIn}
 use Rattle.bittle.proofs.CallerLists.{ascending_none, ascending_first}
+use Rattle.bittle.proofs.CallerChanges.{size_inserted, size_without}
 use Rattle.bittle.proofs.CallerSets.{contains_within, with_index_within, without_index_within, size_none, size_zero}
 use Rattle.bit_queue.specs.Queue.{is_ready, most_urgent, with_task, without_task, with_woken}
 use Rattle.bit_queue.specs.QueueLaws.{IsMostUrgent}
@@ -110,6 +111,10 @@ module _ (s t : PlainSet) (task : ℕ) (h : task < s.capacity) (after : t ≡ wi
       ∙ ap (λ b. b && ((task == task) || s.has task)) (lt-ltb task s.capacity h)
       ∙ ap (λ b. b || s.has task) (eq-eqb task task refl)
 
+  pub is_counted : size t ≡ size s + cond (not (is_ready s task)) 1 0
+  is_counted = ap size after ∙ size_inserted s task (omega (arith, h))
+      ∙ ap (λ b. size s + cond (not b) 1 0) (sym (is_ready-within s task h))
+
   pub wakes_no_other : (other : ℕ) → (other ≡ task → ⊥) → is_ready t other ≡ is_ready s other
   wakes_no_other other apart = ap (λ u. is_ready u other) (after ∙ with_index_within s task h)
       ∙ ap (λ b. nat_lt other s.capacity && (b || s.has other)) (ne_eqb other task apart)
@@ -118,6 +123,9 @@ module _ (s t : PlainSet) (task : ℕ) (h : task < s.capacity) (after : t ≡ wi
 module _ (s t : PlainSet) (task : ℕ) (h : task < s.capacity) (after : t ≡ without_index s task) where
   pub is_taken_out : t ≡ without_task s task
   is_taken_out = after ∙ without_index_within s task h
+
+  pub one_fewer : s.has task ≡ true → size s ≡ size t + 1
+  one_fewer some = size_without s task h some ∙ sym (ap (λ u. size u + 1) after)
 
   pub now_rests : is_ready t task ≡ false
   now_rests = ap (λ u. is_ready u task) is_taken_out

@@ -2,6 +2,7 @@
 
 ghost use Rattle.std.specs.Prelude.{◌≡◌, ◌<◌, ◌↔◌, length, true, false, IfSome, IsOk};
 ghost use Rattle.std.specs.Prelude.{IsTrue, MatchOption, Some, ℕ, ◌≢◌};
+ghost use Rattle.std.specs.Prelude.{◌+◌, ◌&&◌, not, cond, is_ok, is_some};
 ghost use Rattle.bittle.specs.PlainSet.{empty_set, size};
 ghost use Rattle.bittle.specs.Searches.{NoneIn};
 ghost use Rattle.bittle.specs.Shapes.{Fits};
@@ -89,6 +90,9 @@ impl<B: BitsOwned> PriorityQueue<B> {
         ensures a_task { IsOk result ↔ task < B.type_capacity }
         ensures is_ready { task < B.type_capacity
             → is_ready (set_in B.Shape B.Order.Endian self.new.ready) task ≡ true }
+        ensures count { let before = set_in B.Shape B.Order.Endian self.old.ready in
+            size (set_in B.Shape B.Order.Endian self.new.ready)
+            ≡ size before + cond (is_ok result && not (is_ready before task)) 1 0 }
         ensures others { (other : ℕ) → other ≢ task
             → is_ready (set_in B.Shape B.Order.Endian self.new.ready) other
             ≡ is_ready (set_in B.Shape B.Order.Endian self.old.ready) other }
@@ -126,6 +130,8 @@ impl<B: BitsOwned> PriorityQueue<B> {
             (λ task. is_ready (set_in B.Shape B.Order.Endian self.old.ready) task ≡ true) }
         ensures rests { IfSome result
             (λ task. is_ready (set_in B.Shape B.Order.Endian self.new.ready) task ≡ false) }
+        ensures count { size (set_in B.Shape B.Order.Endian self.old.ready)
+            ≡ size (set_in B.Shape B.Order.Endian self.new.ready) + cond (is_some result) 1 0 }
         ensures others { (other : ℕ) → result ≢ Some other
             → is_ready (set_in B.Shape B.Order.Endian self.new.ready) other
             ≡ is_ready (set_in B.Shape B.Order.Endian self.old.ready) other }

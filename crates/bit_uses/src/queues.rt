@@ -101,6 +101,34 @@ pub fn run_two_in_turn<B: BitsOwned>(turns: &mut RoundRobin<B>) -> Option<(u32, 
     Some((first, second))
 }
 
+/// Wakes `task`, and returns whether one task more is ready then, or as many as before if `task` was
+/// ready or is no task. The result is always `true`.
+pub fn wake_and_count<B: BitsOwned>(queue: &mut PriorityQueue<B>, task: u32) -> bool
+    ensures { result ≡ true }
+{
+    let before = queue.len();
+    let was_ready = queue.is_ready(task);
+    let woken = queue.wake(task).is_ok();
+    let after = queue.len();
+    if woken && !was_ready {
+        after == before + 1
+    } else {
+        after == before
+    }
+}
+
+/// Lets a task run in turn, and returns whether one task fewer is ready then, or none if no task
+/// ran. The result is always `true`.
+pub fn run_and_count<B: BitsOwned>(turns: &mut RoundRobin<B>) -> bool
+    ensures { result ≡ true }
+{
+    let before = turns.len();
+    match turns.next() {
+        Some(_) => turns.len() == before - 1,
+        None => before == turns.len(),
+    }
+}
+
 /// Lets the most urgent ready task run, and takes one step off its entry in `work`, unless that is
 /// 0. Returns the task, or `None` if no task is ready.
 pub fn run_for(queue: &mut PriorityQueue<u8>, work: &mut [u32; 8]) -> Option<u32>

@@ -1,5 +1,5 @@
 use Rattle.std.proofs.Common.{arith}
-use Rattle.bit_queue.proofs.Urgency.{is_woken, is_now_ready, wakes_no_other}
+use Rattle.bit_queue.proofs.Urgency.{is_woken, is_counted, is_now_ready, wakes_no_other}
 use Rattle.bit_queue.proofs.priority_queue.PriorityQueue.wake.Goals as goal
 
 pub returns-clause-is_ready : goal.returns-clause-is_ready
@@ -12,6 +12,13 @@ returns-clause-ready g c =
     let capacity = g.met.B.FixedCapacity.one_capacity c.args.self.now.ready in
     let bits = c.bits.ensures.value c.args.self.now.fits in
     is_woken _ _ c.args.task (omega (arith, capacity, bits, c.if-task-bits.false))
+    c.set_bit.ensures.set
+
+pub returns-clause-count : goal.returns-clause-count
+returns-clause-count g c =
+    let capacity = g.met.B.FixedCapacity.one_capacity c.args.self.now.ready in
+    let bits = c.bits.ensures.value c.args.self.now.fits in
+    is_counted _ _ c.args.task (omega (arith, capacity, bits, c.if-task-bits.false))
     c.set_bit.ensures.set
 
 pub returns-clause-others : goal.returns-clause-others

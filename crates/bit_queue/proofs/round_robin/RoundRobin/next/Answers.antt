@@ -2,7 +2,7 @@ use Rattle.std.proofs.Common.{◌+◌, ap, ◌∙◌, arith}
 use Rattle.bittle.specs.PlainSet.{PlainSet}
 use Rattle.bittle.specs.Values.{set_in}
 use Rattle.bit_queue.specs.RoundRobin.{round_at, past_picked}
-use Rattle.bit_queue.proofs.Urgency.{ready-member, is_taken_out, now_rests, takes_no_other}
+use Rattle.bit_queue.proofs.Urgency.{ready-member, is_taken_out, one_fewer, now_rests, takes_no_other}
 use Rattle.bit_queue.proofs.round_robin.RoundRobin.next.Goals as goal
 
 pub overflow_add-self : goal.overflow_add-self
@@ -24,6 +24,12 @@ pub returns-clause-rests : goal.returns-clause-rests
 returns-clause-rests g c =
     let s : PlainSet = set_in g.B.Shape g.B.Order.Endian c.args.self.now.ready in
     now_rests s _ c.in_ok-task.task c.in_ok-task.ensures.next.within c.clear_bit.ensures.set
+
+pub returns-clause-count : goal.returns-clause-count
+returns-clause-count g c =
+    let s : PlainSet = set_in g.B.Shape g.B.Order.Endian c.args.self.now.ready in
+    let next = c.in_ok-task.ensures.next in
+    one_fewer s _ c.in_ok-task.task next.within c.clear_bit.ensures.set next.is_ready
 
 pub returns-clause-others : goal.returns-clause-others
 returns-clause-others g c =

@@ -1,6 +1,6 @@
 use Rattle.std.proofs.Common.{ap, arith}
 use Rattle.bit_queue.specs.RoundRobin.{round_at}
-use Rattle.bit_queue.proofs.Urgency.{is_woken, is_now_ready, wakes_no_other}
+use Rattle.bit_queue.proofs.Urgency.{is_woken, is_counted, is_now_ready, wakes_no_other}
 use Rattle.bit_queue.proofs.round_robin.RoundRobin.wake.Goals as goal
 
 pub returns-clause-is_ready : goal.returns-clause-is_ready
@@ -15,6 +15,13 @@ returns-clause-round g c =
     ap (λ s. round_at s c.args.self.now.turn)
     (is_woken _ _ c.args.task (omega (arith, capacity, bits, c.if-task-bits.false))
     c.set_bit.ensures.set)
+
+pub returns-clause-count : goal.returns-clause-count
+returns-clause-count g c =
+    let capacity = g.met.B.FixedCapacity.one_capacity c.args.self.now.ready in
+    let bits = c.bits.ensures.value c.args.self.now.fits in
+    is_counted _ _ c.args.task (omega (arith, capacity, bits, c.if-task-bits.false))
+    c.set_bit.ensures.set
 
 pub returns-clause-others : goal.returns-clause-others
 returns-clause-others g c =
