@@ -1,3 +1,4 @@
+pub mod CallRuns
 pub mod Counting
 pub mod Histories
 pub mod QueueLaws

@@ -1,3 +1,4 @@
+pub mod CallHistories
 pub mod Queue
 pub mod QueueLaws
 pub mod RoundRobin

@@ -3,6 +3,7 @@
 //! contract of `serve` states that `serve` answers as this machine does, and leaves the machine's
 //! last state.
 
+ghost use Rattle.bit_queue.specs.CallHistories.{HistoriesAreRuns};
 ghost use Rattle.bit_queue.specs.QueueLaws.{MostUrgentRuns, IdleExactlyIfNoneIsReady};
 ghost use Rattle.bit_queue.specs.QueueLaws.{AnswersAreOfTheirStates, RestingTasksAreWokenFirst};
 ghost use Rattle.bit_queue.specs.QueueLaws.{NoTaskExactlyIfThereIsNone, ReadyAreThoseNotRun};
@@ -52,4 +53,11 @@ pub fn ready_are_those_not_run()
 /// tasks are more urgent than this task, and `w` is how often tasks more urgent than it are woken.
 pub fn tasks_run_in_time()
     ensures { TasksRunInTime }
+{}
+
+/// States that calls of `wake` and `next` in any sequence answer as the machine does on the list of
+/// their events. This follows from what the clauses of each call say of its answer and of the ready
+/// tasks. So each law of lists of events holds for such calls too.
+pub fn histories_are_runs()
+    ensures { HistoriesAreRuns }
 {}

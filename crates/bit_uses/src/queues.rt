@@ -1,12 +1,18 @@
 //! Callers of ready queues.
 
-ghost use Rattle.std.specs.Prelude.{◌≡◌, ◌≢◌, ◌<◌, length, IfSome, None, true};
-ghost use Rattle.bit_queue.specs.Queue.{event_answers, most_urgent};
+ghost use Rattle.std.specs.Prelude.{◌≡◌, ◌≢◌, ◌<◌, length, IfSome, None, true, ℕ};
+ghost use Rattle.std.specs.Prelude.{if◌then◌else◌, map, [], ◌∷◌, List};
+ghost use Rattle.bit_queue.specs.CallHistories.{IsHistory};
+ghost use Rattle.bit_queue.specs.Queue.{event_answers, most_urgent, runs_or_idle};
+ghost use Rattle.bit_queue.specs.Queue.{answer_to, state_after};
+ghost use Rattle.bit_queue.specs.QueueLaws.{IsWokenBetween};
 ghost use Rattle.bit_queue.specs.RoundRobin.{answers_in_turn, round_at};
+ghost use Rattle.bit_queue.specs.RoundRobin.{answer_in_turn, round_after};
 ghost use Rattle.bittle.specs.BitPatterns.{bit_set};
-ghost use Rattle.bittle.specs.PlainSet.{empty_set, size};
+ghost use Rattle.bittle.specs.PlainSet.{PlainSet, empty_set, size};
+ghost use Rattle.bittle.specs.Values.{set_in};
 
-use bit_queue::{Answer, Event, NoTask, PriorityQueue, RoundRobin};
+use bit_queue::{Answer, Event, NoTask, PriorityQueue, RoundRobin, queue_laws};
 use bittle::BitsOwned;
 use bittle_tiers::{Ones, Tiered4K};
 
@@ -177,4 +183,44 @@ pub fn serve_in_turn(events: &[Event], answers: &mut [Answer])
 {
     let mut turns = RoundRobin::<[u64; 4]>::new();
     turns.serve(events, answers);
+}
+
+/// Wakes a task, and lets the most urgent ready task run. Returns whether the queue has the first
+/// task, and which task ran. The clause says that the two calls, with what they return, are a
+/// history of calls: they lead from the ready tasks before to the ready tasks afterwards.
+pub fn wake_and_run<B: BitsOwned>(queue: &mut PriorityQueue<B>, task: u32) -> (bool, Option<u32>)
+    ensures { IsHistory answer_to state_after (set_in B.Shape B.Order.Endian queue.old.ready)
+        ((Event.Wake task, if result.0 then Answer.Woken else Answer.NoTask)
+        ∷ (Event.Next, runs_or_idle result.1)
+        ∷ []) (set_in B.Shape B.Order.Endian queue.new.ready) }
+{
+    let woken = queue.wake(task).is_ok();
+    let run = queue.next();
+    (woken, run)
+}
+
+/// Wakes a task, and lets the task that is next in turn run. All else is as with [`wake_and_run`].
+pub fn wake_and_run_in_turn<B: BitsOwned>(
+    turns: &mut RoundRobin<B>,
+    task: u32,
+) -> (bool, Option<u32>)
+    ensures { IsHistory answer_in_turn round_after
+        (round_at (set_in B.Shape B.Order.Endian turns.old.ready) turns.old.turn)
+        ((Event.Wake task, if result.0 then Answer.Woken else Answer.NoTask)
+        ∷ (Event.Next, runs_or_idle result.1)
+        ∷ []) (round_at (set_in B.Shape B.Order.Endian turns.new.ready) turns.new.turn) }
+{
+    let woken = turns.wake(task).is_ok();
+    let run = turns.next();
+    (woken, run)
+}
+
+/// States that in any sequence of calls, a task that runs again was woken since it last ran.
+pub fn tasks_are_woken_between_calls()
+    ensures { (before after : PlainSet) (calls : List (Event × Answer)) (task : ℕ)
+        → IsHistory answer_to state_after before calls after
+        → IsWokenBetween (map (λ call. call.0) calls) (map (λ call. call.1) calls) task }
+{
+    queue_laws::histories_are_runs();
+    queue_laws::tasks_are_woken_between();
 }
