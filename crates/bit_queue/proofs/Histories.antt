@@ -16,7 +16,8 @@ pub answered_at : {S : Type 0} (answer : S → Event → Answer) (after : S → 
     ≡ option_map (answer (fold after s (take i events))) (slice_get events i)
 answered_at answer after s [] i = refl
 answered_at answer after s (event ∷ events) zero = refl
-answered_at answer after s (event ∷ events) (suc i) = answered_at answer after (after s event) events i
+answered_at answer after s (event ∷ events) (suc i) =
+    answered_at answer after (after s event) events i
 
 module _ {S : Type 0} (answer : S → Event → Answer) (after : S → Event → S) (ready : S → ℕ → Bool)
     (runs_ready : (s : S) (event : Event) (task : ℕ) → answer s event ≡ Runs task →
