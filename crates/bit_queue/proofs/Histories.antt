@@ -57,8 +57,8 @@ module _ {S : Type 0} (answer : S → Event → Answer) (after : S → Event →
       let later = woken_between (after s event) events task i j (omega arith) a b in
       (suc later.0, omega (arith, later.1), omega (arith, later.2), later.3)
 
--- which tasks are ready after a list of events, for any machine in which besides no event changes
--- the number of tasks, a ready task that does not run stays ready, and a task that is woken is ready
+-- Which tasks are ready after a list of events. Besides, no event of the machine changes the number
+-- of tasks, a ready task that does not run stays ready, and a task that is woken is ready.
 module _ {S : Type 0} (answer : S → Event → Answer) (after : S → Event → S) (tasks : S → ℕ)
     (ready : S → ℕ → Bool)
     (rests : (s : S) (event : Event) (task : ℕ) → answer s event ≡ Runs task →

@@ -207,8 +207,8 @@ ready_is_left s events task = (
   λ e.
       let parts = and_parts (nat_lt task last.capacity) (last.has task) e in (
         omega (arith, ltb-true task last.capacity parts.0, same),
-        histories.was_left answer_to state_after (λ s. s.capacity) (λ s k. s.has k) rests wakes keeps
-            stays woken_ready s events task parts.1,
+        histories.was_left answer_to state_after (λ s. s.capacity) (λ s k. s.has k) rests wakes
+            keeps stays woken_ready s events task parts.1,
       ),
   λ w. ready-member last task (omega (arith, w.0, same))
       (histories.is_left answer_to state_after (λ s. s.capacity) (λ s k. s.has k) rests wakes keeps

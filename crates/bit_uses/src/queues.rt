@@ -107,8 +107,8 @@ pub fn run_two_in_turn<B: BitsOwned>(turns: &mut RoundRobin<B>) -> Option<(u32, 
     Some((first, second))
 }
 
-/// Wakes `task`, and returns whether one task more is ready then, or as many as before if `task` was
-/// ready or is no task. The result is always `true`.
+/// Wakes `task`, and returns whether one task more is ready then, or as many as before if `task`
+/// was ready or is no task. The result is always `true`.
 pub fn wake_and_count<B: BitsOwned>(queue: &mut PriorityQueue<B>, task: u32) -> bool
     ensures { result ≡ true }
 {
