@@ -1,11 +1,11 @@
 -- What follows for every history of calls: no key goes back to an earlier stage, a removed key
--- finds nothing, and no key is given twice.
-use Rattle.std.proofs.Common.{◌≡◌, ℕ, zero, suc, ◌<◌, ◌≤◌, Bool, true, false, cond, Option, is_some, List, [], ◌∷◌, Some, None, inl, inr, refl, sym, ap, ◌∙◌, subst, arith}
+-- finds nothing, any other key keeps its value, and no key is given twice.
+use Rattle.std.proofs.Common.{◌≡◌, ◌≢◌, ℕ, zero, suc, ◌<◌, ◌≤◌, Bool, true, false, cond, Option, is_some, List, [], ◌∷◌, Some, None, inl, inr, refl, sym, ap, ◌∙◌, subst, arith}
 use Rattle.std.specs.Prelude.{◌==◌, slice_get}
 use Rattle.std.proofs.lemmas.Bool.{cases_Bool, eq-eqb, eqb-true, and_parts}
 use Rattle.bit_slots.specs.declared.Key.{Key}
 use Rattle.bit_slots.specs.Keys.{Stage, Stages, Unused, Holds, Spent, found, spent, is_key, IsKeyInserted, IsKeyReplaced, IsRemoved, IsUpdated}
-use Rattle.bit_slots.specs.KeyLaws.{Call, Inserts, Removes, Replaces, Refuses, IsCall, IsHistory, age}
+use Rattle.bit_slots.specs.KeyLaws.{Call, Inserts, Removes, Replaces, Refuses, IsCall, IsHistory, PutsAt, SparesFrom, age}
 
 -- a key has its own slot and generation
 is_own : (key : Key) → is_key key key.slot key.generation ≡ true
@@ -161,7 +161,7 @@ finds_nothing before after (call ∷ calls) is key (suc i) some e =
     (omega (arith, some, call_goes_on before is.0 call is.1 key.slot key.generation)) e
 
 -- a key that was given is not given later
-given_before : {V : Type 0} (before after : Stages V) (calls : List (Call V)) →
+pub given_before : {V : Type 0} (before after : Stages V) (calls : List (Call V)) →
     IsHistory before calls after → (key : Key) (other : V) (j : ℕ) →
     0 < age (before key.slot key.generation) → slice_get calls j ≡ Some (Inserts other key) → ⊥
 unfolding IsHistory
@@ -248,3 +248,108 @@ not_given before after (call ∷ calls) is key none apart =
     not_given is.0 after calls is.2 key
     (stays_none before is.0 call is.1 key none (λ value e. apart value 0 (ap Some e)))
     (λ value i e. apart value (suc i) e)
+
+-- a key that a call gives was given for the calls after it, and finds the call's value
+given_holds : {V : Type 0} (before after : Stages V) (value v : V) (k key : Key) →
+    IsKeyInserted before v k after → Some (Inserts v k) ≡ Some (Inserts value key) →
+    after key.slot key.generation ≡ Holds value
+given_holds before after value v k key is e =
+    let same : k ≡ key = cc in
+    let held : v ≡ value = cc in
+    let own : is_key k key.slot key.generation ≡ true =
+    ap (λ (l : Key). is_key l key.slot key.generation) same ∙ is_own key in
+    is.stages key.slot key.generation
+    ∙ ap (λ b. cond b (Holds v) (before key.slot key.generation)) own ∙ ap Holds held
+
+-- a key that a call gives, and a later call removes, finds nothing
+pub given_removed : {V : Type 0} (before after : Stages V) (calls : List (Call V)) →
+    IsHistory before calls after → (key : Key) (value : V) (i j : ℕ) → i < j →
+    slice_get calls i ≡ Some (Inserts value key) → slice_get calls j ≡ Some (Removes key) →
+    found (after key.slot key.generation) ≡ None
+unfolding IsHistory
+given_removed before after calls is key value i zero h a b = absurd (omega arith)
+given_removed before after [] is key value i (suc j) h a b = absurd (cc)
+given_removed before after (Removes k ∷ calls) is key value zero (suc j) h a b = absurd (cc)
+given_removed before after (Replaces k v ∷ calls) is key value zero (suc j) h a b = absurd (cc)
+given_removed before after (Refuses ∷ calls) is key value zero (suc j) h a b = absurd (cc)
+given_removed before after (Inserts v k ∷ calls) is key value zero (suc j) h a b =
+    finds_nothing is.0 after calls is.2 key j
+    (omega (arith, ap age (given_holds before is.0 value v k key is.1 a))) b
+given_removed before after (call ∷ calls) is key value (suc i) (suc j) h a b =
+    given_removed is.0 after calls is.2 key value i j (omega arith) a b
+
+-- another key is not the key that a call names
+apart_is : (k key : Key) → k ≢ key → is_key k key.slot key.generation ≡ false
+apart_is k key apart = elim (cases_Bool (is_key k key.slot key.generation)) [
+  | inl own ↦ absurd (apart (same_key k key own))
+  | inr other ↦ other
+]
+
+-- a call that neither removes a key nor replaces its value leaves it finding its value
+stays_found : {V : Type 0} (before after : Stages V) (call : Call V) → IsCall before call after →
+    (key : Key) (value : V) → found (before key.slot key.generation) ≡ Some value →
+    (call ≡ Removes key → ⊥) → ((other : V) → call ≡ Replaces key other → ⊥) →
+    found (after key.slot key.generation) ≡ Some value
+stays_found before after (Inserts v k) is key value has removes replaces =
+    elim (cases_Bool (is_key k key.slot key.generation)) [
+      | inl own ↦
+          let none = ap (λ (l : Key). found (before l.slot l.generation)) (sym (same_key k key own))
+          ∙ ap found is.unused in absurd (cc)
+      | inr other ↦ ap found (is.stages key.slot key.generation
+          ∙ ap (λ b. cond b (Holds v) (before key.slot key.generation)) other) ∙ has
+    ]
+stays_found before after (Removes k) is key value has removes replaces =
+    ap found (is key.slot key.generation
+    ∙ ap (λ b. cond b (spent (before key.slot key.generation)) (before key.slot key.generation))
+    (apart_is k key (λ same. removes (ap Removes same)))) ∙ has
+stays_found before after (Replaces k v) is key value has removes replaces =
+    ap found (is.1.stages key.slot key.generation
+    ∙ ap (λ b. cond b (Holds v) (before key.slot key.generation))
+    (apart_is k key (λ same. replaces v (ap (λ l. Replaces l v) same)))) ∙ has
+stays_found before after Refuses is key value has removes replaces =
+    ap found (is key.slot key.generation) ∙ has
+
+-- calls that neither remove a key nor replace its value leave it finding its value
+pub kept : {V : Type 0} (before after : Stages V) (calls : List (Call V)) →
+    IsHistory before calls after → (key : Key) (value : V) →
+    found (before key.slot key.generation) ≡ Some value → SparesFrom 0 calls key →
+    found (after key.slot key.generation) ≡ Some value
+unfolding IsHistory
+kept before after [] is key value has spares = ap found (is key.slot key.generation) ∙ has
+kept before after (call ∷ calls) is key value has spares =
+    kept is.0 after calls is.2 key value
+    (stays_found before is.0 call is.1 key value has
+    (λ e. (spares 0 (omega arith)).0 (ap Some e))
+    (λ other e. (spares 0 (omega arith)).1 other (ap Some e)))
+    (λ j h. spares (suc j) (omega arith))
+
+-- a key finds the value that a call put under it, if no later call removes the key or replaces its
+-- value
+pub finds_its_value : {V : Type 0} (before after : Stages V) (calls : List (Call V)) →
+    IsHistory before calls after → (key : Key) (value : V) (i : ℕ) → PutsAt i calls key value →
+    SparesFrom (suc i) calls key → found (after key.slot key.generation) ≡ Some value
+unfolding IsHistory
+finds_its_value before after [] is key value i (inl e) spares = absurd (cc)
+finds_its_value before after [] is key value i (inr e) spares = absurd (cc)
+finds_its_value before after (Removes k ∷ calls) is key value zero (inl e) spares = absurd (cc)
+finds_its_value before after (Removes k ∷ calls) is key value zero (inr e) spares = absurd (cc)
+finds_its_value before after (Refuses ∷ calls) is key value zero (inl e) spares = absurd (cc)
+finds_its_value before after (Refuses ∷ calls) is key value zero (inr e) spares = absurd (cc)
+finds_its_value before after (Inserts v k ∷ calls) is key value zero (inr e) spares = absurd (cc)
+finds_its_value before after (Replaces k v ∷ calls) is key value zero (inl e) spares = absurd (cc)
+finds_its_value before after (Inserts v k ∷ calls) is key value zero (inl e) spares =
+    kept is.0 after calls is.2 key value
+    (ap found (given_holds before is.0 value v k key is.1 e))
+    (λ j h. spares (suc j) (omega arith))
+finds_its_value before after (Replaces k v ∷ calls) is key value zero (inr e) spares =
+    let same : k ≡ key = cc in
+    let held : v ≡ value = cc in
+    let own : is_key k key.slot key.generation ≡ true =
+    ap (λ (l : Key). is_key l key.slot key.generation) same ∙ is_own key in
+    kept is.0 after calls is.2 key value
+    (ap found (is.1.1.stages key.slot key.generation
+    ∙ ap (λ b. cond b (Holds v) (before key.slot key.generation)) own ∙ ap Holds held))
+    (λ j h. spares (suc j) (omega arith))
+finds_its_value before after (call ∷ calls) is key value (suc i) puts spares =
+    finds_its_value is.0 after calls is.2 key value i puts
+    (λ j h. spares (suc j) (omega arith))
