@@ -47,6 +47,11 @@ module _ {V : Type 0} (test : Slot V → Bool) (row : List (Slot V)) where
         by true = is
         by false = refl
 
+    -- slot i passes the test exactly if the changed slot does
+    pub passes_as : is_slot test (set row i f) i ≡ test f
+    passes_as = ap (passes test) (slice_get_set row i f h i)
+        ∙ ap (λ b. passes test (cond b (Some f) (slice_get row i))) (eq-eqb i i refl)
+
     -- if slot i passes exactly if it passed before, the same slots pass
     pub stays : test f ≡ test (get_or row i d) → Stays test row (set row i f)
     stays same k = ap (passes test) (slice_get_set row i f h k) ∙ elim (cases_eq k i) [

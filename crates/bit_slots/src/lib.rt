@@ -19,8 +19,8 @@ ghost use Rattle.std.specs.Borrow.{MutBor};
 ghost use Rattle.std.specs.Fn.{FnOnceReturnsAtMut};
 ghost use Rattle.std.specs.List.{All};
 ghost use Rattle.std.specs.Option.{is_some};
-ghost use Rattle.std.specs.Prelude.{◌≡◌, ◌+◌, ◌<◌, ◌≤◌, ℕ, suc, false, true, length, None, Some};
-ghost use Rattle.std.specs.Prelude.{option_copied, slice_get, IfErr, IfOk, IfSome, IsTrue};
+ghost use Rattle.std.specs.Prelude.{◌≡◌, ◌≢◌, ◌+◌, ◌<◌, ◌≤◌, ℕ, suc, false, true, length, None, Ok, Some};
+ghost use Rattle.std.specs.Prelude.{nat_lt, option_copied, slice_get, IfErr, IfOk, IfSome, IsTrue};
 ghost use Rattle.std.specs.Prelude.{MatchOption, MatchResult};
 ghost use Rattle.bittle.specs.PlainSet.{ascending};
 ghost use Rattle.bittle.specs.Shapes.{Fits};
@@ -114,6 +114,11 @@ impl<'a, V: Drop, B: BitsOwned> Slots<'a, V, B> {
             → is_slot is_free self.old.row.slots.now slot ≡ false) }
         ensures full { IfErr result (λ _. (slot : ℕ)
             → is_slot is_free self.old.row.slots.now slot ≡ false) }
+        ensures others { (other : Key) → result ≢ Ok other
+            → found (stages self.new.row.slots.now other.slot other.generation)
+            ≡ found (stages self.old.row.slots.now other.slot other.generation) }
+        ensures free { IfOk result (λ key.
+            is_slot is_free self.old.row.slots.now key.slot ≡ true) }
         ensures within { IfOk result (λ key. key.slot < length self.old.row.slots.now) }
         ensures count { let before = live_count B.type_capacity self.old.row.slots.now in
             let after = live_count B.type_capacity self.new.row.slots.now in
@@ -130,13 +135,19 @@ impl<'a, V: Drop, B: BitsOwned> Slots<'a, V, B> {
         Ok(key)
     }
 
-    /// Takes out the value of a key and returns it. From then on the key finds nothing. If the key
-    /// finds no value, it changes nothing and returns `None`.
+    /// Takes out the value of a key and returns it. From then on the key finds nothing, and its slot
+    /// is free again, unless the key's generation is `u32::MAX`. If the key finds no value, the call
+    /// changes nothing and returns `None`.
     pub fn remove(&mut self, key: Key) -> Option<V>
         ensures found { result ≡ found (stages self.old.row.slots.now key.slot key.generation) }
         ensures stages { IsRemoved (stages self.old.row.slots.now) key
             (stages self.new.row.slots.now) }
         ensures gone { found (stages self.new.row.slots.now key.slot key.generation) ≡ None }
+        ensures others { (other : Key) → other ≢ key
+            → found (stages self.new.row.slots.now other.slot other.generation)
+            ≡ found (stages self.old.row.slots.now other.slot other.generation) }
+        ensures free { IfSome result (λ _. is_slot is_free self.new.row.slots.now key.slot
+            ≡ nat_lt key.generation 4294967295) }
         ensures within { IfSome result (λ _. key.slot < length self.old.row.slots.now) }
         ensures count { let before = live_count B.type_capacity self.old.row.slots.now in
             let after = live_count B.type_capacity self.new.row.slots.now in
@@ -158,6 +169,16 @@ impl<'a, V: Drop, B: BitsOwned> Slots<'a, V, B> {
     pub fn replace(&mut self, key: Key, value: V) -> Result<V, V>
         ensures stages { IsReplaced (stages self.old.row.slots.now) key value result
             (stages self.new.row.slots.now) }
+        ensures found { MatchResult result
+            (λ old. found (stages self.old.row.slots.now key.slot key.generation) ≡ Some old)
+            (λ _. found (stages self.old.row.slots.now key.slot key.generation) ≡ None) }
+        ensures holds { MatchResult result
+            (λ _. found (stages self.new.row.slots.now key.slot key.generation) ≡ Some value)
+            (λ _. found (stages self.new.row.slots.now key.slot key.generation) ≡ None) }
+        ensures back { IfErr result (λ back. back ≡ value) }
+        ensures others { (other : Key) → other ≢ key
+            → found (stages self.new.row.slots.now other.slot other.generation)
+            ≡ found (stages self.old.row.slots.now other.slot other.generation) }
         ensures within { IfOk result (λ _. key.slot < length self.old.row.slots.now) }
         ensures count { live_count B.type_capacity self.new.row.slots.now
             ≡ live_count B.type_capacity self.old.row.slots.now }
@@ -185,6 +206,9 @@ impl<'a, V: Drop, B: BitsOwned> Slots<'a, V, B> {
             × FnOnceReturnsAtMut F.FnOnce change old tt value }
         ensures stages { IsUpdated (λ old new. FnOnceReturnsAtMut F.FnOnce change old tt new)
             (stages self.old.row.slots.now) key result (stages self.new.row.slots.now) }
+        ensures others { (other : Key) → other ≢ key
+            → found (stages self.new.row.slots.now other.slot other.generation)
+            ≡ found (stages self.old.row.slots.now other.slot other.generation) }
         ensures within { IsTrue result → key.slot < length self.old.row.slots.now }
         ensures count { live_count B.type_capacity self.new.row.slots.now
             ≡ live_count B.type_capacity self.old.row.slots.now }

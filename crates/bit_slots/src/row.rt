@@ -3,7 +3,7 @@
 ghost use Rattle.std.specs.Borrow.{MutBor};
 ghost use Rattle.std.specs.Fn.{FnOnceReturnsAtMut};
 ghost use Rattle.std.specs.Option.{is_some};
-ghost use Rattle.std.specs.Prelude.{◌≡◌, ◌<◌, ◌≤◌, false, None, Some, true, cond, length};
+ghost use Rattle.std.specs.Prelude.{◌≡◌, ◌<◌, ◌≤◌, nat_lt, false, None, Some, true, cond, length};
 ghost use Rattle.std.specs.Prelude.{option_copied, IfOk, IfSome, IsTrue, MatchBool, MatchOption};
 ghost use Rattle.bit_slots.specs.Keys.{stages, found, IsKeyInserted, IsRemoved, IsReplaced, IsUpdated, HasKey};
 ghost use Rattle.bit_slots.specs.SlotSets.{is_free, is_live, is_slot, HasSlots};
@@ -53,6 +53,8 @@ impl<'a, V: Drop> Row<'a, V> {
         ensures free { IfSome result (λ out. MatchBool out.1
             (Joins is_free self.old.slots.now key.slot self.new.slots.now)
             (Stays is_free self.old.slots.now self.new.slots.now)) }
+        ensures again { IfSome result (λ _. is_slot is_free self.new.slots.now key.slot
+            ≡ nat_lt key.generation 4294967295) }
         ensures same_length { length self.new.slots.now ≡ length self.old.slots.now }
         ensures same_row { self.new.slots.ghost_name ≡ self.old.slots.ghost_name }
     {

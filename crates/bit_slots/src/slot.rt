@@ -3,7 +3,7 @@
 ghost use Rattle.std.specs.Option.{is_some};
 ghost use Rattle.std.specs.Borrow.{MutBor};
 ghost use Rattle.std.specs.Fn.{FnOnceReturnsAtMut};
-ghost use Rattle.std.specs.Prelude.{◌≡◌, ℕ, false, true, option_copied, IfSome, IsTrue, Some};
+ghost use Rattle.std.specs.Prelude.{◌≡◌, ℕ, nat_lt, false, true, option_copied, IfSome, IsTrue, Some};
 ghost use Rattle.bit_slots.specs.Keys.{Unused, stage_of, found, removed, IsExchanged, IsFilled};
 ghost use Rattle.bit_slots.specs.Keys.{IsUpdatedIn};
 ghost use Rattle.bit_slots.specs.SlotSets.{is_free, is_live};
@@ -24,7 +24,8 @@ pub enum Slot<V> {
 impl<V: Drop> Slot<V> {
     /// Returns a slot that is free and was never used.
     pub fn new() -> Slot<V>
-        ensures { (generation : ℕ) → stage_of result generation ≡ Unused }
+        ensures unused { (generation : ℕ) → stage_of result generation ≡ Unused }
+        ensures free { is_free result ≡ true }
     {
         Slot::Free(0)
     }
@@ -67,6 +68,7 @@ impl<V: Drop> Slot<V> {
             → stage_of self.new k ≡ removed generation k (stage_of self.old k) }
         ensures was_live { IfSome result (λ _. is_free self.old ≡ false) }
         ensures live { IfSome result (λ _. is_live self.new ≡ false) }
+        ensures free { IfSome result (λ _. is_free self.new ≡ nat_lt generation 4294967295) }
         ensures kept { is_some result ≡ false → self.new ≡ self.old }
     {
         match self {

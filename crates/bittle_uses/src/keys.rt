@@ -1,6 +1,6 @@
 //! Callers of slots with generations: what a key finds. No function has a proof file.
 
-ghost use Rattle.std.specs.Prelude.{◌≡◌, None, IfSome, false, true, length};
+ghost use Rattle.std.specs.Prelude.{◌≡◌, ◌<◌, None, IfSome, false, true, length};
 ghost use Rattle.bit_slots.specs.Entries.{entries};
 
 use bit_slots::{Key, Slots};
@@ -14,6 +14,55 @@ pub fn insert_and_ask<V: Drop, B: BitsOwned>(slots: &mut Slots<V, B>, value: V) 
     match slots.insert(value) {
         Ok(key) => slots.contains(key),
         Err(_) => true,
+    }
+}
+
+/// Inserts two values, and returns whether the key of the first still finds a value. The result is
+/// always `true`, also if `insert` fails.
+pub fn insert_beside<V: Drop, B: BitsOwned>(slots: &mut Slots<V, B>, first: V, second: V) -> bool
+    ensures { result ≡ true }
+{
+    let Ok(key) = slots.insert(first) else {
+        return true;
+    };
+    let _key = slots.insert(second);
+    slots.contains(key)
+}
+
+/// Removes the value of `key`, and returns whether `other` finds a value exactly if it did before.
+/// The result is always `true`, also if both keys are the same.
+pub fn remove_beside<V: Drop, B: BitsOwned>(slots: &mut Slots<V, B>, key: Key, other: Key) -> bool
+    ensures { result ≡ true }
+{
+    if key == other {
+        return true;
+    }
+    let was_there = slots.contains(other);
+    let _value = slots.remove(key);
+    slots.contains(other) == was_there
+}
+
+/// Removes the value of `key` and inserts a value. Returns whether `insert` returns a key, if
+/// `remove` returned a value. The result is always `true`. The key's generation is not the last.
+pub fn remove_and_insert<V: Drop, B: BitsOwned>(slots: &mut Slots<V, B>, key: Key, value: V) -> bool
+    requires { key.generation < 4294967295 }
+    ensures { result ≡ true }
+{
+    match slots.remove(key) {
+        Some(_) => slots.insert(value).is_ok(),
+        None => true,
+    }
+}
+
+/// Replaces the value of `key`, and returns whether `replace` returns what `get` says. The result
+/// is always `true`.
+pub fn replace_and_ask<B: BitsOwned>(slots: &mut Slots<u64, B>, key: Key, value: u64) -> bool
+    ensures { result ≡ true }
+{
+    let before = slots.get(key).copied();
+    match slots.replace(key, value) {
+        Ok(old) => before == Some(old) && slots.get(key).copied() == Some(value),
+        Err(back) => before == None && back == value && !slots.contains(key),
     }
 }
 

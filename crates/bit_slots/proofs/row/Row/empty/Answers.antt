@@ -3,7 +3,7 @@ use Rattle.std.proofs.lemmas.List.{get_or-set_same, set-get_or}
 use Rattle.bit_slots.specs.Keys.{stage_at, found}
 use Rattle.bit_slots.specs.SlotSets.{is_free, is_live}
 use Rattle.bit_slots.proofs.SlotChanges.{emptied_in, found_past, removed_past, stood}
-use Rattle.bit_slots.proofs.SlotMarks.{freed, leaves}
+use Rattle.bit_slots.proofs.SlotMarks.{freed, leaves, passes_as}
 use Rattle.bit_slots.proofs.row.Row.empty.Goals as goal
 
 pub returns-then-self-key-clause-found : goal.returns-then-self-key-clause-found
@@ -55,3 +55,8 @@ returns-clause-free g c =
     (c.is_free.ensures ∙ ap is_free (get_or-set_same c.args.self.now.slots.now c.args.key.slot
     c.empty.new.self c.index-self-key-2.result (omega arith)))
     c.in_ok-value.ensures.was_live
+
+pub returns-clause-again : goal.returns-clause-again
+returns-clause-again g c =
+    passes_as is_free _ c.args.key.slot c.index-self-key.result c.empty.new.self (omega arith)
+    ∙ c.in_ok-value.ensures.free
