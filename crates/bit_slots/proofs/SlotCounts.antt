@@ -1,6 +1,6 @@
 -- How many slots of a row pass a test, and which numbers name them.
 use Rattle.std.proofs.Common.{◌≡◌, ℕ, zero, suc, ◌+◌, ◌<◌, ◌≤◌, Bool, true, false, cond, List, length, Option, Some, None, inl, inr, refl, sym, ap, ◌∙◌, arith}
-use Rattle.std.specs.Prelude.{slice_get}
+use Rattle.std.specs.Prelude.{◌==◌, nat_lt, slice_get}
 use Rattle.std.specs.List.{All}
 use Rattle.std.proofs.lemmas.Bool.{cases_lt}
 use Rattle.std.proofs.lemmas.List.{get_or_default}
@@ -11,7 +11,7 @@ use Rattle.bittle.proofs.CallerLists.{ascending_member}
 use Rattle.bittle.proofs.CallerSets.{size_at_most}
 use Rattle.bit_slots.specs.declared.slot.Slot.{Slot}
 use Rattle.bit_slots.specs.declared.slot.Slot.TheVariants.{Free, Live, Retired}
-use Rattle.bit_slots.specs.Keys.{found, stage_at, stages}
+use Rattle.bit_slots.specs.Keys.{Unused, Spent, found, stage_at, stages}
 use Rattle.bit_slots.specs.SlotSets.{is_free, is_live, is_slot, passes, slots_where, HasSlots, Joins, Leaves, Stays}
 use Rattle.bit_slots.proofs.RowEntries.{holds_is}
 use Rattle.bit_slots.proofs.SlotMarks.{slot_within}
@@ -36,6 +36,23 @@ found_holds {V = V} row slot generation value is = by (slice_get row slot) is
         passes is_live place ≡ true
     by None e = absurd (cc)
     by (Some s) e = ap is_live (holds_is s generation value e)
+
+-- no key finds a value in a slot that holds none
+pub lacks_found : {V : Type 0} (row : List (Slot V)) (slot generation : ℕ) →
+    is_slot is_live row slot ≡ false → found (stages row slot generation) ≡ None
+lacks_found {V = V} row slot generation lacks = by (slice_get row slot) lacks
+  where
+    none : (old same : Bool) → found {V = V} (cond old Spent (cond same Unused Unused)) ≡ None
+    none true same = refl
+    none false true = refl
+    none false false = refl
+
+    by : (place : Option (Slot V)) → passes is_live place ≡ false →
+        found (stage_at place generation) ≡ None
+    by None e = refl
+    by (Some (Free now)) e = none (nat_lt generation now) (generation == now)
+    by (Some (Live now value)) e = absurd (cc)
+    by (Some Retired) e = none (nat_lt generation 4294967296) (generation == 4294967296)
 
 module _ {V : Type 0} (test : Slot V → Bool) (row : List (Slot V)) where
   -- no more slots pass than there are

@@ -3,7 +3,7 @@ use Rattle.std.proofs.Common.{◌≡◌, ◌≢◌, ◌+◌, nat_lt, ℕ, ◌<�
 use Rattle.std.specs.Prelude.{slice_get, MatchBool, Result, Ok, Err}
 use Rattle.std.proofs.lemmas.Bool.{cases_eq, cases_lt, eq-eqb, ne_eqb, lt-ltb, le-ltb, and_right}
 use Rattle.std.proofs.lemmas.Option.{slice_get_past}
-use Rattle.bittle.specs.PlainSet.{PlainSet, empty_set, size, with_index, without_index}
+use Rattle.bittle.specs.PlainSet.{PlainSet, size, with_index, without_index}
 use Rattle.bittle.specs.Searches.{NoneIn}
 use Rattle.bittle.proofs.CallerSets.{with_index_within, without_index_within}
 use Rattle.bittle.proofs.CallerTables.{slice_get_set}

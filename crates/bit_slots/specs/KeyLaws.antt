@@ -3,8 +3,8 @@ use Rattle.std.specs.Prelude.{◌≡◌, ◌⊎◌, ℕ, suc, ◌<◌, ◌≤◌
 use Rattle.bit_slots.specs.declared.Key.{Key}
 use Rattle.bit_slots.specs.Keys.{Stage, Stages, Unused, Holds, Spent, found, AreSameKeys, IsKeyInserted, IsKeyReplaced, IsRemoved}
 
--- a call: a value was put in and got the key, `remove` was called with the key, a new value replaced
--- that of the key, or nothing changed
+-- a call: a value was put in and got the key, `remove` was called with the key, a new value
+-- replaced that of the key, or nothing changed
 pub data Call (V : Type 0) : Type 0 where
   Inserts : V → Key → Call V
   Removes : Key → Call V
@@ -56,8 +56,8 @@ RemovedKeysFindNothing V =
     → slice_get calls i ≡ Some (Removes key)
     → found (after key.slot key.generation) ≡ None
 
--- if a call gives a key, and a later call is `remove` with the key, then the key finds nothing after
--- the history
+-- if a call gives a key, and a later call is `remove` with the key, then the key finds nothing
+-- after the history
 abbrev pub GivenThenRemovedKeysFindNothing : Type 0 → Type 0
 GivenThenRemovedKeysFindNothing V =
     (before after : Stages V) (calls : List (Call V)) → IsHistory before calls after

@@ -19,9 +19,9 @@ ghost use Rattle.std.specs.Borrow.{MutBor};
 ghost use Rattle.std.specs.Fn.{FnOnceReturnsAtMut};
 ghost use Rattle.std.specs.List.{All};
 ghost use Rattle.std.specs.Option.{is_some};
-ghost use Rattle.std.specs.Prelude.{◌≡◌, ◌≢◌, ◌+◌, ◌<◌, ◌≤◌, ℕ, suc, false, true, length, None, Ok, Some};
+ghost use Rattle.std.specs.Prelude.{◌≡◌, ◌≢◌, ◌==◌, ◌+◌, ◌<◌, ◌≤◌, ℕ, suc, false, true, length};
 ghost use Rattle.std.specs.Prelude.{nat_lt, option_copied, slice_get, IfErr, IfOk, IfSome, IsTrue};
-ghost use Rattle.std.specs.Prelude.{MatchOption, MatchResult};
+ghost use Rattle.std.specs.Prelude.{MatchOption, MatchResult, None, Ok, Some};
 ghost use Rattle.bittle.specs.PlainSet.{ascending};
 ghost use Rattle.bittle.specs.Shapes.{Fits};
 ghost use Rattle.bittle.specs.Values.{set_in};
@@ -135,8 +135,8 @@ impl<'a, V: Drop, B: BitsOwned> Slots<'a, V, B> {
         Ok(key)
     }
 
-    /// Takes out the value of a key and returns it. From then on the key finds nothing, and its slot
-    /// is free again, unless the key's generation is `u32::MAX`. If the key finds no value, the call
+    /// Takes out the value of a key and returns it. From then on the key finds nothing. The slot is
+    /// free again, unless the key's generation is `u32::MAX`. If the key finds no value, the call
     /// changes nothing and returns `None`.
     pub fn remove(&mut self, key: Key) -> Option<V>
         ensures found { result ≡ found (stages self.old.row.slots.now key.slot key.generation) }
@@ -271,6 +271,16 @@ impl<'a, V: Drop, B: BitsOwned> Slots<'a, V, B> {
         ensures at_most { result ≤ length self.now.row.slots.now }
     {
         self.live.count_ones()
+    }
+
+    /// Returns whether no slot holds a value. The call reads the words of [`live`](Slots::live) up
+    /// to the first that is not 0.
+    pub fn is_empty(&self) -> bool
+        ensures count { result ≡ (live_count B.type_capacity self.now.row.slots.now == 0) }
+        ensures none { IsTrue result → (key : Key)
+            → found (stages self.now.row.slots.now key.slot key.generation) ≡ None }
+    {
+        self.live.all_zeros()
     }
 
     /// Returns the set of the slots that hold a value. Iterate over it by `iter_ones`, which yields

@@ -3,7 +3,8 @@
 ghost use Rattle.std.specs.Option.{is_some};
 ghost use Rattle.std.specs.Borrow.{MutBor};
 ghost use Rattle.std.specs.Fn.{FnOnceReturnsAtMut};
-ghost use Rattle.std.specs.Prelude.{◌≡◌, ℕ, nat_lt, false, true, option_copied, IfSome, IsTrue, Some};
+ghost use Rattle.std.specs.Prelude.{◌≡◌, ℕ, nat_lt, false, true, option_copied};
+ghost use Rattle.std.specs.Prelude.{IfSome, IsTrue, Some};
 ghost use Rattle.bit_slots.specs.Keys.{Unused, stage_of, found, removed, IsExchanged, IsFilled};
 ghost use Rattle.bit_slots.specs.Keys.{IsUpdatedIn};
 ghost use Rattle.bit_slots.specs.SlotSets.{is_free, is_live};

@@ -66,6 +66,13 @@ pub fn replace_and_ask<B: BitsOwned>(slots: &mut Slots<u64, B>, key: Key, value:
     }
 }
 
+/// Returns whether no slot holds a value and `key` still finds one. The result is always `false`.
+pub fn is_empty_and_ask<V: Drop, B: BitsOwned>(slots: &Slots<V, B>, key: Key) -> bool
+    ensures { result ≡ false }
+{
+    slots.is_empty() && slots.contains(key)
+}
+
 /// Removes the value of `key`, and returns whether the key still finds a value. The result is
 /// always `false`.
 pub fn remove_and_ask<V: Drop, B: BitsOwned>(slots: &mut Slots<V, B>, key: Key) -> bool
