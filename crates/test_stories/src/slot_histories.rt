@@ -32,7 +32,8 @@ fn found<B: BitsOwned>(slots: &Slots<u64, B>, key: Option<Key>) -> Option<u64> {
     slots.get(key?).copied()
 }
 
-// Returns whether each key finds what the list says, and `len` and `iter` agree with the list.
+// Returns whether each key finds what the list says, and `len`, `is_empty` and `iter` agree with
+// the list.
 fn agrees<B: BitsOwned>(slots: &Slots<u64, B>, given: &Given) -> bool {
     for step in 0..48 {
         let expected = if given.there[step] {
@@ -44,7 +45,8 @@ fn agrees<B: BitsOwned>(slots: &Slots<u64, B>, given: &Given) -> bool {
             return false;
         }
     }
-    slots.len() == count(given) && walks(slots, given)
+    let count = count(given);
+    slots.len() == count && slots.is_empty() == (count == 0) && walks(slots, given)
 }
 
 // Returns whether `iter` yields exactly the keys that are still in use, each with its value, and
@@ -68,25 +70,50 @@ fn walks<B: BitsOwned>(slots: &Slots<u64, B>, given: &Given) -> bool {
     yielded == count(given)
 }
 
-// Inserts a value. If `insert` returns a key, returns whether the key is new. Else returns whether
-// the value came back and all five slots are in use.
+// Returns the slot and the generation of the next key, as the list predicts them: the least slot
+// that no key in use names, and how many keys of that slot there were. Returns `None` if all five
+// slots are in use.
+fn next_key(given: &Given) -> Option<(u32, u32)> {
+    for slot in 0..5u32 {
+        let mut is_used = false;
+        let mut generation = 0u32;
+        for step in 0..48 {
+            if let Some(key) = given.keys[step] {
+                if key.slot() == slot {
+                    is_used = is_used || given.there[step];
+                    generation = generation.wrapping_add(1);
+                }
+            }
+        }
+        if !is_used {
+            return Some((slot, generation));
+        }
+    }
+    None
+}
+
+// Inserts a value. If `insert` returns a key, returns whether the key is new, and has the slot and
+// the generation that the list predicts. Else returns whether the value came back and all five
+// slots are in use.
 fn put<B: BitsOwned>(
     slots: &mut Slots<u64, B>,
     given: &mut Given,
     step: usize,
     value: u64,
 ) -> bool {
+    let next = next_key(given);
     match slots.insert(value) {
         Ok(key) => {
             let is_new = !given.keys.contains(&Some(key));
+            let is_next = next == Some((key.slot(), key.generation()));
             if step < 48 {
                 given.keys[step] = Some(key);
                 given.values[step] = value;
                 given.there[step] = true;
             }
-            is_new
+            is_new && is_next
         }
-        Err(back) => back == value && count(given) == 5,
+        Err(back) => back == value && next == None && count(given) == 5,
     }
 }
 

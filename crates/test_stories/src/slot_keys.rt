@@ -88,6 +88,7 @@ fn a_slot_retires_after_its_last_generation(rt: HostRuntime) {
     same!(rt; slots.insert(3), Err(3));
     holds!(rt; !slots.contains(last) && !slots.contains(before));
     same!(rt; slots.len(), 0);
+    holds!(rt; slots.is_empty());
 }
 
 #[test]
@@ -107,6 +108,7 @@ fn slots_are_walked_in_order(rt: HostRuntime) {
     same!(rt; slots.key_at(3).map(parts), Some((3, 0)));
     same!(rt; slots.key_at(4), None);
     same!(rt; (slots.len(), slots.capacity()), (2, 4));
+    holds!(rt; !slots.is_empty());
     let mut walk = slots.iter();
     same!(rt; walk.next().map(|entry| (parts(entry.0), *entry.1)), Some(((0, 3), 30)));
     same!(rt; walk.next().map(|entry| (parts(entry.0), *entry.1)), Some(((3, 0), 33)));

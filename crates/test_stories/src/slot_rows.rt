@@ -20,6 +20,7 @@ fn a_row_of_no_slots(rt: HostRuntime) {
     same!(rt; slots.insert(1), Err(1));
     same!(rt; slots.remove(key), None);
     same!(rt; (slots.len(), slots.capacity()), (0, 0));
+    holds!(rt; slots.is_empty());
     holds!(rt; !slots.contains(key) && !slots.update(key, |value| *value = 2));
     same!(rt; slots.iter().next(), None);
 }

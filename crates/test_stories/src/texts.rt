@@ -1,9 +1,10 @@
-//! The texts of the events, requests, answers and errors of queues and roles. Also texts that are
-//! cut off.
+//! The texts of the events, requests, answers and errors of queues and roles, and of a key. Also
+//! texts that are cut off.
 
 use crate::checks::{holds, same};
 use bit_queue::{Event, NoTask};
 use bit_roles::{Refused, Request};
+use bit_slots::{Slot, Slots};
 use std::alloc::{AllocError, Global};
 use std::fmt;
 use std::fmt::{Debug, Display, Write};
@@ -55,6 +56,15 @@ fn answers_of_roles_and_errors_are_named(rt: HostRuntime) -> Result<(), Fail> {
     reads(&rt, rt.alloc(), &bit_roles::Answer::Refused, "Refused")?;
     reads(&rt, rt.alloc(), &NoTask, "NoTask")?;
     reads(&rt, rt.alloc(), &Refused, "Refused")?;
+    Ok(())
+}
+
+#[test]
+fn a_key_is_named_with_its_slot_and_generation(rt: HostRuntime) -> Result<(), Fail> {
+    let mut row = [Slot::Retired, Slot::Free(70)];
+    let mut slots = Slots::<u64, u8>::over(row.as_mut_slice());
+    let key = slots.insert(10).expect(&rt, "slot 1 is free");
+    reads(&rt, rt.alloc(), &key, "Key { slot: 1, generation: 70 }")?;
     Ok(())
 }
 
