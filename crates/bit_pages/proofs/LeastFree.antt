@@ -81,23 +81,24 @@ one_least s p q a b =
       ]
     ]
 
--- the first of the free pages is the least one
-pub least_free-first : (s : PlainSet) (p : ℕ) → IsFirstIn (complement s) 0 s.capacity (Some p) →
-    least_free s ≡ Some p
-least_free-first s p first = by (least_free s) (least_free-is s)
+-- the least free page is what `least_free` finds
+pub least_free-found : (s : PlainSet) (p : ℕ) → IsLeastFree s p → least_free s ≡ Some p
+least_free-found s p found = by (least_free s) (least_free-is s)
   where
-    found : IsLeastFree s p
-    found = record {
-      within = first.1;
-      is_free = not-true (s.has p) (sym (complement_within s p first.1) ∙ first.2);
-      taken_below = λ k h. not-false (s.has k)
-          (sym (complement_within s k (omega (arith, first.1))) ∙ first.3 k (omega arith) h);
-    }
-
     by : (o : Option ℕ) → MatchOption o ((k : ℕ) → k < s.capacity → s.has k ≡ true)
         (IsLeastFree s) → o ≡ Some p
     by None all = absurd (true≢false (sym (all p found.within) ∙ found.is_free))
     by (Some q) least = ap Some (one_least s q p least found)
+
+-- the first of the free pages is the least one
+pub least_free-first : (s : PlainSet) (p : ℕ) → IsFirstIn (complement s) 0 s.capacity (Some p) →
+    least_free s ≡ Some p
+least_free-first s p first = least_free-found s p (record {
+  within = first.1;
+  is_free = not-true (s.has p) (sym (complement_within s p first.1) ∙ first.2);
+  taken_below = λ k h. not-false (s.has k)
+      (sym (complement_within s k (omega (arith, first.1))) ∙ first.3 k (omega arith) h);
+})
 
 -- if no page is free, `least_free` is None
 pub least_free-none : (s : PlainSet) → NoneIn (complement s) 0 s.capacity → least_free s ≡ None

@@ -8,13 +8,13 @@ use Rattle.std.proofs.lemmas.Bool.{cases_eq, cases_lt, eqb-true, eq-eqb, ne_eqb,
 use Rattle.std.proofs.lemmas.List.Folds.{list_any-append}
 use Rattle.std.proofs.lemmas.Map.Keys.{IsDistinct-head, IsDistinct-tail, IsDistinct-cons, IsDistinct-push}
 use Rattle.std.proofs.lemmas.Map.Views.{any-filter_same}
-use Rattle.std.specs.Prelude.{MatchOption, slice_get}
+use Rattle.std.specs.Option.{option_map}
+use Rattle.std.specs.Prelude.{MatchOption, slice_get, take}
 use Rattle.bittle.specs.PlainSet.{PlainSet, complement, is_in_span, size}
 use Rattle.bittle_bits.proofs.Spans.{is_in_span-inside, is_in_span-outside}
 use Rattle.bittle_ext.specs.Runs.{IsFirstRun}
-use Rattle.bit_pages.specs.PageLaws.{IsLeastFree, IsAnsweredAt, asks_back, gives, pages_back, pages_given, total, held_with, held_after, held_after_run, outstanding, gives_back, came_back, AreOutstanding}
+use Rattle.bit_pages.specs.PageLaws.{IsLeastFree, asks_back, gives, pages_back, pages_given, total, held_with, held_after, held_after_run, outstanding, gives_back, came_back, AreOutstanding}
 use Rattle.bit_pages.specs.Pages.{is_taken, is_run_taken, least_free, first_free_run, page_or_full, run_or_none, answer_to, state_after, request_answers, final_state}
-use Rattle.bit_pages.specs.declared.Answer.{Answer}
 use Rattle.bit_pages.specs.declared.Answer.TheVariants as answer
 use Rattle.bit_pages.specs.declared.Request.{Request}
 use Rattle.bit_pages.specs.declared.Request.TheVariants.{Take, GiveBack, TakeRun, GiveBackRun}
@@ -23,22 +23,14 @@ use Rattle.bit_pages.proofs.LeastFree.{least_free-is}
 use Rattle.bit_pages.proofs.PageSteps.{step}
 use Rattle.bit_pages.proofs.RunCounts.{run_is_free}
 
--- an answer of a run is the answer in the state that the requests before it leave
-pub answered_at : (s : PlainSet) (requests : List Request) (i : ℕ) (a : Answer) →
-    slice_get (request_answers s requests) i ≡ Some a → IsAnsweredAt s requests i a
+-- each request of a list is answered in the state that the requests before it leave
+pub answered_at : (s : PlainSet) (requests : List Request) (i : ℕ) →
+    slice_get (request_answers s requests) i
+    ≡ option_map (answer_to (final_state s (take i requests))) (slice_get requests i)
 unfolding request_answers final_state
-answered_at s [] i a e = absurd (cc)
-answered_at s (request ∷ requests) zero a e = record {
-  request = request;
-  asked = refl;
-  answered = let is : answer_to s request ≡ a = cc in sym is;
-}
-answered_at s (request ∷ requests) (suc i) a e =
-    let later = answered_at (state_after s request) requests i a e in record {
-      request = later.request;
-      asked = later.asked;
-      answered = later.answered;
-    }
+answered_at s [] i = refl
+answered_at s (request ∷ requests) zero = refl
+answered_at s (request ∷ requests) (suc i) = answered_at (state_after s request) requests i
 
 -- the pages of a list of requests add up, as `PagesAreCounted` states
 pub counted : (s : PlainSet) (requests : List Request) →

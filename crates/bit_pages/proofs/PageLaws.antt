@@ -10,8 +10,8 @@ use Rattle.bit_pages.specs.Pages.{is_taken, is_run_taken, least_free, first_free
 use Rattle.bit_pages.specs.declared.Answer.TheVariants as answer
 use Rattle.bit_pages.specs.declared.Request.{Request}
 use Rattle.bit_pages.specs.declared.Request.TheVariants.{Take, GiveBack, TakeRun, GiveBackRun}
-use Rattle.bit_pages.proofs.FreeRuns.{first_free_run-is}
-use Rattle.bit_pages.proofs.LeastFree.{least_free-is}
+use Rattle.bit_pages.proofs.FreeRuns.{first_free_run-is, first_run_is}
+use Rattle.bit_pages.proofs.LeastFree.{least_free-is, least_free-found}
 use Rattle.bit_pages.proofs.PageSteps.{IsTaken, given_was_free, page_is_taken, stays_taken}
 
 -- a request to give back has no answer but `Given` and `NotTaken`
@@ -51,34 +51,61 @@ run_is_not_full : (o : Option ℕ) → run_or_none o ≡ answer.Full → ⊥
 run_is_not_full None e = cc
 run_is_not_full (Some p) e = cc
 
--- the page in an answer `Page` is the least free page
+-- a page is answered exactly if a page is asked for and this page is the least free one
 pub page_is_least : (s : PlainSet) (request : Request) (page : ℕ) →
-    answer_to s request ≡ answer.Page page → IsLeastFree s page
-page_is_least s Take page = by (least_free s) (least_free-is s)
+    (answer_to s request ≡ answer.Page page) ↔ ((request ≡ Take) × IsLeastFree s page)
+page_is_least s Take page = (
+  by (least_free s) (least_free-is s),
+  λ e. ap page_or_full (least_free-found s page e.1),
+)
   where
     by : (o : Option ℕ) → MatchOption o ((k : ℕ) → k < s.capacity → s.has k ≡ true)
-        (IsLeastFree s) → page_or_full o ≡ answer.Page page → IsLeastFree s page
+        (IsLeastFree s) → page_or_full o ≡ answer.Page page → (Take ≡ Take) × IsLeastFree s page
     by None all e = absurd (cc)
-    by (Some q) least e = let same : q ≡ page = cc in rw same at least
-page_is_least s (GiveBack p) page = λ e. absurd (given_is_no_page (is_taken s p) page e)
-page_is_least s (TakeRun n) page = λ e. absurd (run_is_no_page (first_free_run s n) page e)
-page_is_least s (GiveBackRun f n) page =
-    λ e. absurd (given_is_no_page (is_run_taken s f n) page e)
+    by (Some q) least e = let same : q ≡ page = cc in (refl, rw same at least)
+page_is_least s (GiveBack p) page = (
+  λ e. absurd (given_is_no_page (is_taken s p) page e),
+  λ e. let kind = e.0 in absurd (cc),
+)
+page_is_least s (TakeRun n) page = (
+  λ e. absurd (run_is_no_page (first_free_run s n) page e),
+  λ e. let kind = e.0 in absurd (cc),
+)
+page_is_least s (GiveBackRun f n) page = (
+  λ e. absurd (given_is_no_page (is_run_taken s f n) page e),
+  λ e. let kind = e.0 in absurd (cc),
+)
 
--- the run in an answer `Run` is the first run of free pages of the length that was asked for
+-- a run of pages is answered exactly if a run is asked for and this run is the first free run of
+-- its length
 pub run_is_first : (s : PlainSet) (request : Request) (first : ℕ) →
-    answer_to s request ≡ answer.Run first →
-    (n : ℕ) × (request ≡ TakeRun n) × IsFirstRun (complement s) 0 n (Some first)
-run_is_first s Take first = λ e. absurd (page_is_no_run (least_free s) first e)
-run_is_first s (GiveBack p) first = λ e. absurd (given_is_no_run (is_taken s p) first e)
-run_is_first s (TakeRun n) first = by (first_free_run s n) (first_free_run-is s n)
+    (answer_to s request ≡ answer.Run first)
+    ↔ ((n : ℕ) × (request ≡ TakeRun n) × IsFirstRun (complement s) 0 n (Some first))
+run_is_first s Take first = (
+  λ e. absurd (page_is_no_run (least_free s) first e),
+  λ e. let kind = e.1 in absurd (cc),
+)
+run_is_first s (GiveBack p) first = (
+  λ e. absurd (given_is_no_run (is_taken s p) first e),
+  λ e. let kind = e.1 in absurd (cc),
+)
+run_is_first s (TakeRun n) first = (by (first_free_run s n) (first_free_run-is s n), found)
   where
     by : (o : Option ℕ) → IsFirstRun (complement s) 0 n o → run_or_none o ≡ answer.Run first →
         (m : ℕ) × (TakeRun n ≡ TakeRun m) × IsFirstRun (complement s) 0 m (Some first)
     by None none e = absurd (cc)
     by (Some q) is e = let same : q ≡ first = cc in (n, refl, rw same at is)
-run_is_first s (GiveBackRun f n) first =
-    λ e. absurd (given_is_no_run (is_run_taken s f n) first e)
+
+    found : (m : ℕ) × (TakeRun n ≡ TakeRun m) × IsFirstRun (complement s) 0 m (Some first) →
+        run_or_none (first_free_run s n) ≡ answer.Run first
+    found e =
+        let kind = e.1 in
+        let same : e.0 ≡ n = cc in
+        ap run_or_none (sym (first_run_is s n (Some first) (rw same at e.2)))
+run_is_first s (GiveBackRun f n) first = (
+  λ e. absurd (given_is_no_run (is_run_taken s f n) first e),
+  λ e. let kind = e.1 in absurd (cc),
+)
 
 -- `Full` is answered exactly if a page is asked for and all pages are taken
 pub full_is_taken : (s : PlainSet) (request : Request) → (answer_to s request ≡ answer.Full)

@@ -1,5 +1,6 @@
 -- Laws of the page machine, for all requests and all lists of requests.
 use Rattle.std.specs.List.{filter, list_any, IsDistinct}
+use Rattle.std.specs.Option.{option_map}
 use Rattle.std.specs.Prelude.{◌≡◌, ℕ, zero, suc, ◌+◌, ◌<◌, ◌↔◌, Bool, true, false, not, ◌&&◌, ◌||◌, ◌==◌, Some, List, [], ◌∷◌, ◌++◌, slice_get, take}
 use Rattle.bittle.specs.PlainSet.{PlainSet, complement, is_in_span, size}
 use Rattle.bittle_ext.specs.Runs.{IsFirstRun, IsRun}
@@ -15,20 +16,19 @@ pub record IsLeastFree (s : PlainSet) (page : ℕ) : Type 0 where
   pub is_free : s.has page ≡ false
   pub taken_below : (k : ℕ) → k < page → s.has k ≡ true
 
--- a page in an answer `Page` is the least free page
+-- a page is answered exactly if a page is asked for and this page is the least free one
 abbrev pub PagesAreLeastFree : Type 0
 PagesAreLeastFree =
     (s : PlainSet) (request : Request) (page : ℕ)
-    → answer_to s request ≡ Page page
-    → IsLeastFree s page
+    → (answer_to s request ≡ Page page) ↔ ((request ≡ Take) × IsLeastFree s page)
 
--- a run of pages in an answer `Run` is the first run of free pages of the length that was asked for
+-- a run of pages is answered exactly if a run is asked for and this run is the first free run of
+-- its length
 abbrev pub RunsAreFirst : Type 0
 RunsAreFirst =
     (s : PlainSet) (request : Request) (first : ℕ)
-    → answer_to s request ≡ Run first
-    → (length : ℕ) × (request ≡ TakeRun length)
-    × IsFirstRun (complement s) 0 length (Some first)
+    → (answer_to s request ≡ Run first) ↔ ((length : ℕ) × (request ≡ TakeRun length)
+    × IsFirstRun (complement s) 0 length (Some first))
 
 -- Full is answered exactly if a page is asked for and all pages are taken
 abbrev pub FullExactlyIfAllAreTaken : Type 0
@@ -43,17 +43,13 @@ NoRunExactlyIfNoneIsFree =
     → (answer_to s request ≡ NoRun) ↔ ((length : ℕ) × (request ≡ TakeRun length)
     × ((first : ℕ) → IsRun (complement s) length first → ⊥))
 
--- `answer` is the answer to request i of a list, in the state that the requests before it leave
-pub record IsAnsweredAt (s : PlainSet) (requests : List Request) (i : ℕ) (answer : Answer) : Type 0 where
-  pub request : Request
-  pub asked : slice_get requests i ≡ Some request
-  pub answered : answer ≡ answer_to (final_state s (take i requests)) request
-
+-- each request of a list is answered in the state that the requests before it leave, and there is
+-- no other answer
 abbrev pub AnswersAreOfTheirStates : Type 0
 AnswersAreOfTheirStates =
-    (s : PlainSet) (requests : List Request) (i : ℕ) (answer : Answer)
-    → slice_get (request_answers s requests) i ≡ Some answer
-    → IsAnsweredAt s requests i answer
+    (s : PlainSet) (requests : List Request) (i : ℕ)
+    → slice_get (request_answers s requests) i
+    ≡ option_map (answer_to (final_state s (take i requests))) (slice_get requests i)
 
 -- how many pages a request asks for, or gives back
 abbrev pub length_of : Request → ℕ

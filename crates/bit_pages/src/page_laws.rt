@@ -9,7 +9,8 @@ ghost use Rattle.bit_pages.specs.PageLaws.{PagesAreGivenBetween, TakenPagesAreGi
 ghost use Rattle.bit_pages.specs.CallHistories.{HistoriesAreRuns};
 ghost use Rattle.bit_pages.specs.PageLaws.{AnswersAreOfTheirStates, PagesAreCounted, PagesAreOutstanding};
 
-/// States that a page in an answer `Page` was the least free page.
+/// States that a page is answered exactly if a page is asked for and this page is the least free
+/// one.
 pub fn pages_are_least_free()
     ensures { PagesAreLeastFree }
 {}
@@ -19,8 +20,8 @@ pub fn full_exactly_if_all_are_taken()
     ensures { FullExactlyIfAllAreTaken }
 {}
 
-/// States that a run of pages in an answer `Run` was the first run of free pages of the length that
-/// was asked for.
+/// States that a run of pages is answered exactly if a run is asked for and this run is the first
+/// free run of its length.
 pub fn runs_are_first()
     ensures { RunsAreFirst }
 {}
@@ -31,8 +32,8 @@ pub fn no_run_exactly_if_none_is_free()
     ensures { NoRunExactlyIfNoneIsFree }
 {}
 
-/// States that in every list, answer `i` is the answer to request `i` in the state that the earlier
-/// requests leave. So what holds of one answer in any state holds of each answer of the list.
+/// States that in every list, request `i` is answered in the state that the earlier requests leave,
+/// and that there is no other answer. So what holds of one answer in any state holds of each answer of the list.
 pub fn answers_are_of_their_states()
     ensures { AnswersAreOfTheirStates }
 {}
