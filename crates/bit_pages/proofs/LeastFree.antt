@@ -1,12 +1,12 @@
 -- The least free page, and how a search of the free pages finds it.
-use Rattle.std.proofs.Common.{◌≡◌, ℕ, zero, suc, ◌+◌, ◌<◌, ◌≤◌, ◌⊎◌, Bool, true, false, ◌&&◌, cond, nat_lt, Option, Some, None, inl, inr, refl, sym, ap, ◌∙◌, arith}
+use Rattle.std.proofs.Common.{◌≡◌, ℕ, zero, suc, ◌+◌, ◌<◌, ◌≤◌, ◌⊎◌, Bool, true, false, not, ◌&&◌, cond, nat_lt, Option, Some, None, inl, inr, refl, sym, ap, ◌∙◌, arith}
 use Rattle.std.proofs.lemmas.Bool.{cases_eq, cases_Bool, cases_lt, lt-ltb, ltb-true, not-true, not-false, and_parts, true≢false}
 use Rattle.std.specs.Prelude.{MatchOption}
 use Rattle.bittle.specs.PlainSet.{PlainSet, complement, contains, size}
 use Rattle.bittle.specs.Searches.{NoneIn, IsFirstIn}
 use Rattle.bittle.proofs.CallerSets.{contains_within, complement_within, size_full}
-use Rattle.bit_pages.specs.PageLaws.{IsLeastFree}
-use Rattle.bit_pages.specs.Pages.{is_taken, least_free_from, least_free}
+use Rattle.bit_pages.specs.PageLaws.{IsFree, IsLeastFree}
+use Rattle.bit_pages.specs.Pages.{is_taken, is_free_page, least_free_from, least_free}
 
 -- each of the n pages from `from` on is taken
 abbrev pub AllTakenFrom : (ℕ → Bool) → ℕ → ℕ → Type 0
@@ -135,6 +135,16 @@ taken-member s p h = (and_parts (nat_lt p s.capacity) (s.has p) h).1
 pub free-member : (s : PlainSet) (p : ℕ) → p < s.capacity → is_taken s p ≡ false →
     s.has p ≡ false
 free-member s p h e = sym (ap (λ b. b && s.has p) (lt-ltb p s.capacity h)) ∙ e
+
+-- `is_free_page` is true exactly if the number is a free page
+pub free_page : (s : PlainSet) (p : ℕ) → is_free_page s p ≡ true → IsFree s p
+free_page s p e =
+    let parts = and_parts (nat_lt p s.capacity) (not (s.has p)) e in
+    (ltb-true p s.capacity parts.0, not-true (s.has p) parts.1)
+
+pub page_free : (s : PlainSet) (p : ℕ) → IsFree s p → is_free_page s p ≡ true
+page_free s p free =
+    let within = lt-ltb p s.capacity free.0 in let member = free.1 in rw (within, member) refl
 
 -- if all pages are taken, `least_free` is None
 pub least_free-full : (s : PlainSet) → size s ≡ s.capacity → least_free s ≡ None

@@ -14,12 +14,12 @@ use Rattle.bittle.specs.PlainSet.{PlainSet, complement, is_in_span, size}
 use Rattle.bittle_bits.proofs.Spans.{is_in_span-inside, is_in_span-outside}
 use Rattle.bittle_ext.specs.Runs.{IsFirstRun}
 use Rattle.bit_pages.specs.PageLaws.{IsLeastFree, asks_back, gives, pages_back, pages_given, total, held_with, held_after, held_after_run, outstanding, gives_back, came_back, AreOutstanding}
-use Rattle.bit_pages.specs.Pages.{is_taken, is_run_taken, least_free, first_free_run, page_or_full, run_or_none, answer_to, state_after, request_answers, final_state}
+use Rattle.bit_pages.specs.Pages.{is_taken, is_free_page, is_run_taken, least_free, first_free_run, page_or_full, run_or_none, answer_to, state_after, request_answers, final_state}
 use Rattle.bit_pages.specs.declared.Answer.TheVariants as answer
 use Rattle.bit_pages.specs.declared.Request.{Request}
-use Rattle.bit_pages.specs.declared.Request.TheVariants.{Take, GiveBack, TakeRun, GiveBackRun}
+use Rattle.bit_pages.specs.declared.Request.TheVariants.{Take, TakeAt, GiveBack, TakeRun, GiveBackRun}
 use Rattle.bit_pages.proofs.FreeRuns.{first_free_run-is}
-use Rattle.bit_pages.proofs.LeastFree.{least_free-is}
+use Rattle.bit_pages.proofs.LeastFree.{least_free-is, free_page}
 use Rattle.bit_pages.proofs.PageSteps.{step}
 use Rattle.bit_pages.proofs.RunCounts.{run_is_free}
 
@@ -196,12 +196,11 @@ module _ (s : PlainSet) (held : List ℕ) (kept : ℕ → Bool) (h : AreHeld s h
   not_held page e =
       (or_parts (list_any (◌==◌ page) held) (kept page) (sym (h.taken page) ∙ e)).0
 
-  held_take : (o : Option ℕ) → MatchOption o ((k : ℕ) → k < s.capacity → s.has k ≡ true)
-      (IsLeastFree s) → AreHeldAfter held (held_after held Take (page_or_full o))
-      (gives Take (page_or_full o)) (λ _. false)
-  held_take None all = same_held held (λ _. false) (λ _. refl) h.distinct
-  held_take (Some q) least = record {
-    distinct = IsDistinct-push nat_eq_equiv held q h.distinct (not_held q least.is_free);
+  -- if a free page is handed out, it is held too
+  held_page : (q : ℕ) → s.has q ≡ false →
+      AreHeldAfter held (held ++ q ∷ []) (λ page. page == q) (λ _. false)
+  held_page q free = record {
+    distinct = IsDistinct-push nat_eq_equiv held q h.distinct (not_held q free);
     any = λ page. any_push page q held ∙ swap_or (list_any (◌==◌ page) held) (page == q);
   }
     where
@@ -210,6 +209,18 @@ module _ (s : PlainSet) (held : List ℕ) (kept : ℕ → Bool) (h : AreHeld s h
       swap_or true false = refl
       swap_or false true = refl
       swap_or false false = refl
+
+  held_take : (o : Option ℕ) → MatchOption o ((k : ℕ) → k < s.capacity → s.has k ≡ true)
+      (IsLeastFree s) → AreHeldAfter held (held_after held Take (page_or_full o))
+      (gives Take (page_or_full o)) (λ _. false)
+  held_take None all = same_held held (λ _. false) (λ _. refl) h.distinct
+  held_take (Some q) least = held_page q least.is_free
+
+  held_chosen : (p : ℕ) (b : Bool) → b ≡ is_free_page s p →
+      AreHeldAfter held (held_after held (TakeAt p) (cond b (answer.Page p) answer.NotFree))
+      (gives (TakeAt p) (cond b (answer.Page p) answer.NotFree)) (λ _. false)
+  held_chosen p false is = same_held held (λ _. false) (λ _. refl) h.distinct
+  held_chosen p true is = held_page p (free_page s p (sym is)).1
 
   held_run : (n : ℕ) (o : Option ℕ) → IsFirstRun (complement s) 0 n o →
       AreHeldAfter held (held_after held (TakeRun n) (run_or_none o))
@@ -236,6 +247,7 @@ module _ (s : PlainSet) (held : List ℕ) (kept : ℕ → Bool) (h : AreHeld s h
       AreHeldAfter held (held_after held request (answer_to s request))
       (gives request (answer_to s request)) (gives_back s request)
   held_next Take = held_take (least_free s) (least_free-is s)
+  held_next (TakeAt p) = held_chosen p (is_free_page s p) refl
   held_next (GiveBack p) = held_back (GiveBack p) (is_taken s p)
   held_next (TakeRun n) = held_run n (first_free_run s n) (first_free_run-is s n)
   held_next (GiveBackRun f n) = held_back (GiveBackRun f n) (is_run_taken s f n)

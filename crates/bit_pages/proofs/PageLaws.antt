@@ -1,17 +1,17 @@
 -- What follows from the page machine for every run.
-use Rattle.std.proofs.Common.{◌≡◌, ℕ, zero, suc, ◌<◌, Bool, true, false, cond, Option, Some, None, List, [], ◌∷◌, inl, inr, refl, sym, ap, ◌∙◌, arith}
+use Rattle.std.proofs.Common.{◌≡◌, ℕ, zero, suc, ◌<◌, ◌⊎◌, Bool, true, false, cond, Option, Some, None, List, [], ◌∷◌, inl, inr, refl, sym, ap, ◌∙◌, arith}
 use Rattle.std.proofs.lemmas.Bool.{true≢false}
 use Rattle.std.specs.Prelude.{◌↔◌, MatchOption}
 use Rattle.bittle.specs.PlainSet.{PlainSet, complement, size}
 use Rattle.bittle.proofs.CallerSets.{size_full, size_whole}
 use Rattle.bittle_ext.specs.Runs.{IsFirstRun, IsRun}
-use Rattle.bit_pages.specs.PageLaws.{IsGiven, IsGivenBack, IsLeastFree, gives}
-use Rattle.bit_pages.specs.Pages.{is_taken, is_run_taken, least_free, first_free_run, page_or_full, run_or_none, answer_to, state_after, request_answers}
+use Rattle.bit_pages.specs.PageLaws.{IsFree, IsGiven, IsGivenBack, IsLeastFree, gives}
+use Rattle.bit_pages.specs.Pages.{is_taken, is_free_page, is_run_taken, least_free, first_free_run, page_or_full, run_or_none, answer_to, state_after, request_answers}
 use Rattle.bit_pages.specs.declared.Answer.TheVariants as answer
 use Rattle.bit_pages.specs.declared.Request.{Request}
-use Rattle.bit_pages.specs.declared.Request.TheVariants.{Take, GiveBack, TakeRun, GiveBackRun}
-use Rattle.bit_pages.proofs.FreeRuns.{first_free_run-is, first_run_is}
-use Rattle.bit_pages.proofs.LeastFree.{least_free-is, least_free-found}
+use Rattle.bit_pages.specs.declared.Request.TheVariants.{Take, TakeAt, GiveBack, TakeRun, GiveBackRun}
+use Rattle.bit_pages.proofs.FreeRuns.{first_free_run-is, first_run_is, run_taken, taken_run}
+use Rattle.bit_pages.proofs.LeastFree.{least_free-is, least_free-found, free_page, page_free}
 use Rattle.bit_pages.proofs.PageSteps.{IsTaken, given_was_free, page_is_taken, stays_taken}
 
 -- a request to give back has no answer but `Given` and `NotTaken`
@@ -33,6 +33,24 @@ given_is_not_none : (b : Bool) → cond b answer.Given answer.NotTaken ≡ answe
 given_is_not_none true e = cc
 given_is_not_none false e = cc
 
+given_is_free : (b : Bool) → cond b answer.Given answer.NotTaken ≡ answer.NotFree → ⊥
+given_is_free true e = cc
+given_is_free false e = cc
+
+-- a request for a chosen page has no answer but `Page` and `NotFree`
+chosen_is_no_run : (b : Bool) (p first : ℕ) →
+    cond b (answer.Page p) answer.NotFree ≡ answer.Run first → ⊥
+chosen_is_no_run true p first e = cc
+chosen_is_no_run false p first e = cc
+
+chosen_is_not_full : (b : Bool) (p : ℕ) → cond b (answer.Page p) answer.NotFree ≡ answer.Full → ⊥
+chosen_is_not_full true p e = cc
+chosen_is_not_full false p e = cc
+
+chosen_is_not_none : (b : Bool) (p : ℕ) → cond b (answer.Page p) answer.NotFree ≡ answer.NoRun → ⊥
+chosen_is_not_none true p e = cc
+chosen_is_not_none false p e = cc
+
 -- a request for a page is not answered by `Run` or `NoRun`, and a request for a run is not answered
 -- by `Page` or `Full`
 page_is_no_run : (o : Option ℕ) (first : ℕ) → page_or_full o ≡ answer.Run first → ⊥
@@ -51,29 +69,96 @@ run_is_not_full : (o : Option ℕ) → run_or_none o ≡ answer.Full → ⊥
 run_is_not_full None e = cc
 run_is_not_full (Some p) e = cc
 
--- a page is answered exactly if a page is asked for and this page is the least free one
-pub page_is_least : (s : PlainSet) (request : Request) (page : ℕ) →
-    (answer_to s request ≡ answer.Page page) ↔ ((request ≡ Take) × IsLeastFree s page)
-page_is_least s Take page = (
-  by (least_free s) (least_free-is s),
-  λ e. ap page_or_full (least_free-found s page e.1),
-)
+page_is_free : (o : Option ℕ) → page_or_full o ≡ answer.NotFree → ⊥
+page_is_free None e = cc
+page_is_free (Some p) e = cc
+
+run_is_free : (o : Option ℕ) → run_or_none o ≡ answer.NotFree → ⊥
+run_is_free None e = cc
+run_is_free (Some p) e = cc
+
+-- what a request for a page, answered by this page, says of the page
+abbrev IsOfFree : PlainSet → Request → ℕ → Type 0
+IsOfFree s request page =
+    ((request ≡ Take) × IsLeastFree s page) ⊎ ((request ≡ TakeAt page) × IsFree s page)
+
+-- a page is answered exactly if any page is asked for and this page is the least free one, or if
+-- this page is asked for and free
+pub page_is_free_one : (s : PlainSet) (request : Request) (page : ℕ) →
+    (answer_to s request ≡ answer.Page page) ↔ IsOfFree s request page
+page_is_free_one s Take page = (by (least_free s) (least_free-is s), found)
   where
     by : (o : Option ℕ) → MatchOption o ((k : ℕ) → k < s.capacity → s.has k ≡ true)
-        (IsLeastFree s) → page_or_full o ≡ answer.Page page → (Take ≡ Take) × IsLeastFree s page
+        (IsLeastFree s) → page_or_full o ≡ answer.Page page → IsOfFree s Take page
     by None all e = absurd (cc)
-    by (Some q) least e = let same : q ≡ page = cc in (refl, rw same at least)
-page_is_least s (GiveBack p) page = (
-  λ e. absurd (given_is_no_page (is_taken s p) page e),
-  λ e. let kind = e.0 in absurd (cc),
+    by (Some q) least e = let same : q ≡ page = cc in inl (refl, rw same at least)
+
+    found : IsOfFree s Take page → page_or_full (least_free s) ≡ answer.Page page
+    found (inl e) = ap page_or_full (least_free-found s page e.1)
+    found (inr e) = let kind = e.0 in absurd (cc)
+page_is_free_one s (TakeAt p) page = (by (is_free_page s p) (free_page s p), found)
+  where
+    by : (b : Bool) → (b ≡ true → IsFree s p) →
+        cond b (answer.Page p) answer.NotFree ≡ answer.Page page → IsOfFree s (TakeAt p) page
+    by false free e = absurd (cc)
+    by true free e = let same : p ≡ page = cc in inr (ap TakeAt same, rw same at (free refl))
+
+    found : IsOfFree s (TakeAt p) page →
+        cond (is_free_page s p) (answer.Page p) answer.NotFree ≡ answer.Page page
+    found (inl e) = let kind = e.0 in absurd (cc)
+    found (inr e) =
+        let kind = e.0 in
+        let same : page ≡ p = cc in
+        ap (λ b. cond b (answer.Page p) answer.NotFree) (page_free s p (rw same at e.1))
+        ∙ ap answer.Page (sym same)
+page_is_free_one s (GiveBack p) page =
+    (λ e. absurd (given_is_no_page (is_taken s p) page e), none)
+  where
+    none : IsOfFree s (GiveBack p) page → answer_to s (GiveBack p) ≡ answer.Page page
+    none (inl e) = let kind = e.0 in absurd (cc)
+    none (inr e) = let kind = e.0 in absurd (cc)
+page_is_free_one s (TakeRun n) page =
+    (λ e. absurd (run_is_no_page (first_free_run s n) page e), none)
+  where
+    none : IsOfFree s (TakeRun n) page → answer_to s (TakeRun n) ≡ answer.Page page
+    none (inl e) = let kind = e.0 in absurd (cc)
+    none (inr e) = let kind = e.0 in absurd (cc)
+page_is_free_one s (GiveBackRun f n) page =
+    (λ e. absurd (given_is_no_page (is_run_taken s f n) page e), none)
+  where
+    none : IsOfFree s (GiveBackRun f n) page →
+        answer_to s (GiveBackRun f n) ≡ answer.Page page
+    none (inl e) = let kind = e.0 in absurd (cc)
+    none (inr e) = let kind = e.0 in absurd (cc)
+
+-- `NotFree` is answered exactly if one page is asked for that is not a free page
+pub asked_is_not_free : (s : PlainSet) (request : Request) → (answer_to s request ≡ answer.NotFree)
+    ↔ ((page : ℕ) × (request ≡ TakeAt page) × (IsFree s page → ⊥))
+asked_is_not_free s Take = (
+  λ e. absurd (page_is_free (least_free s) e),
+  λ e. let kind = e.1 in absurd (cc),
 )
-page_is_least s (TakeRun n) page = (
-  λ e. absurd (run_is_no_page (first_free_run s n) page e),
-  λ e. let kind = e.0 in absurd (cc),
+asked_is_not_free s (TakeAt p) = by (is_free_page s p) (free_page s p) (page_free s p)
+  where
+    by : (b : Bool) → (b ≡ true → IsFree s p) → (IsFree s p → b ≡ true) →
+        (cond b (answer.Page p) answer.NotFree ≡ answer.NotFree)
+        ↔ ((page : ℕ) × (TakeAt p ≡ TakeAt page) × (IsFree s page → ⊥))
+    by true free back = (
+      λ e. absurd (cc),
+      λ e. let kind = e.1 in let same : p ≡ e.0 = cc in absurd (e.2 (rw same at (free refl))),
+    )
+    by false free back = (λ e. (p, refl, λ is. absurd (true≢false (sym (back is)))), λ e. refl)
+asked_is_not_free s (GiveBack p) = (
+  λ e. absurd (given_is_free (is_taken s p) e),
+  λ e. let kind = e.1 in absurd (cc),
 )
-page_is_least s (GiveBackRun f n) page = (
-  λ e. absurd (given_is_no_page (is_run_taken s f n) page e),
-  λ e. let kind = e.0 in absurd (cc),
+asked_is_not_free s (TakeRun n) = (
+  λ e. absurd (run_is_free (first_free_run s n) e),
+  λ e. let kind = e.1 in absurd (cc),
+)
+asked_is_not_free s (GiveBackRun f n) = (
+  λ e. absurd (given_is_free (is_run_taken s f n) e),
+  λ e. let kind = e.1 in absurd (cc),
 )
 
 -- a run of pages is answered exactly if a run is asked for and this run is the first free run of
@@ -83,6 +168,10 @@ pub run_is_first : (s : PlainSet) (request : Request) (first : ℕ) →
     ↔ ((n : ℕ) × (request ≡ TakeRun n) × IsFirstRun (complement s) 0 n (Some first))
 run_is_first s Take first = (
   λ e. absurd (page_is_no_run (least_free s) first e),
+  λ e. let kind = e.1 in absurd (cc),
+)
+run_is_first s (TakeAt p) first = (
+  λ e. absurd (chosen_is_no_run (is_free_page s p) p first e),
   λ e. let kind = e.1 in absurd (cc),
 )
 run_is_first s (GiveBack p) first = (
@@ -119,6 +208,10 @@ full_is_taken s Take = by (least_free s) (least_free-is s)
       λ e. absurd (cc),
       λ e. absurd (true≢false (sym (size_full s e.1 q least.within) ∙ least.is_free)),
     )
+full_is_taken s (TakeAt p) = (
+  λ e. absurd (chosen_is_not_full (is_free_page s p) p e),
+  λ e. absurd (cc),
+)
 full_is_taken s (GiveBack p) = (
   λ e. absurd (given_is_not_full (is_taken s p) e),
   λ e. absurd (cc),
@@ -137,6 +230,10 @@ pub none_is_free : (s : PlainSet) (request : Request) → (answer_to s request �
     ↔ ((n : ℕ) × (request ≡ TakeRun n) × ((first : ℕ) → IsRun (complement s) n first → ⊥))
 none_is_free s Take = (
   λ e. absurd (page_is_not_none (least_free s) e),
+  λ e. let kind = e.1 in absurd (cc),
+)
+none_is_free s (TakeAt p) = (
+  λ e. absurd (chosen_is_not_none (is_free_page s p) p e),
   λ e. let kind = e.1 in absurd (cc),
 )
 none_is_free s (GiveBack p) = (
@@ -158,6 +255,68 @@ none_is_free s (GiveBackRun f n) = (
   λ e. absurd (given_is_not_none (is_run_taken s f n) e),
   λ e. let kind = e.1 in absurd (cc),
 )
+
+-- what a request that is answered by `Given` says of the pages that it gives back
+abbrev IsOfTaken : PlainSet → Request → Type 0
+IsOfTaken s request =
+    ((page : ℕ) × (request ≡ GiveBack page) × (is_taken s page ≡ true))
+    ⊎ ((first : ℕ) × (n : ℕ) × (request ≡ GiveBackRun first n) × IsRun s n first)
+
+page_is_not_given : (o : Option ℕ) → page_or_full o ≡ answer.Given → ⊥
+page_is_not_given None e = cc
+page_is_not_given (Some p) e = cc
+
+chosen_is_not_given : (b : Bool) (p : ℕ) →
+    cond b (answer.Page p) answer.NotFree ≡ answer.Given → ⊥
+chosen_is_not_given true p e = cc
+chosen_is_not_given false p e = cc
+
+run_is_not_given : (o : Option ℕ) → run_or_none o ≡ answer.Given → ⊥
+run_is_not_given None e = cc
+run_is_not_given (Some p) e = cc
+
+given_is_true : (b : Bool) → cond b answer.Given answer.NotTaken ≡ answer.Given → b ≡ true
+given_is_true true e = refl
+given_is_true false e = absurd (cc)
+
+-- `Given` is answered exactly if pages are given back and each of them is taken
+pub given_is_taken : (s : PlainSet) (request : Request) →
+    (answer_to s request ≡ answer.Given) ↔ IsOfTaken s request
+given_is_taken s Take = (λ e. absurd (page_is_not_given (least_free s) e), none)
+  where
+    none : IsOfTaken s Take → answer_to s Take ≡ answer.Given
+    none (inl e) = let kind = e.1 in absurd (cc)
+    none (inr e) = let kind = e.2 in absurd (cc)
+given_is_taken s (TakeAt p) = (λ e. absurd (chosen_is_not_given (is_free_page s p) p e), none)
+  where
+    none : IsOfTaken s (TakeAt p) → answer_to s (TakeAt p) ≡ answer.Given
+    none (inl e) = let kind = e.1 in absurd (cc)
+    none (inr e) = let kind = e.2 in absurd (cc)
+given_is_taken s (GiveBack p) = (λ e. inl (p, refl, given_is_true (is_taken s p) e), found)
+  where
+    found : IsOfTaken s (GiveBack p) →
+        cond (is_taken s p) answer.Given answer.NotTaken ≡ answer.Given
+    found (inl e) =
+        let kind = e.1 in
+        let same : e.0 ≡ p = cc in
+        ap (λ b. cond b answer.Given answer.NotTaken) (rw same at e.2)
+    found (inr e) = let kind = e.2 in absurd (cc)
+given_is_taken s (TakeRun n) = (λ e. absurd (run_is_not_given (first_free_run s n) e), none)
+  where
+    none : IsOfTaken s (TakeRun n) → answer_to s (TakeRun n) ≡ answer.Given
+    none (inl e) = let kind = e.1 in absurd (cc)
+    none (inr e) = let kind = e.2 in absurd (cc)
+given_is_taken s (GiveBackRun f n) =
+    (λ e. inr (f, n, refl, run_taken s f n (given_is_true (is_run_taken s f n) e)), found)
+  where
+    found : IsOfTaken s (GiveBackRun f n) →
+        cond (is_run_taken s f n) answer.Given answer.NotTaken ≡ answer.Given
+    found (inl e) = let kind = e.1 in absurd (cc)
+    found (inr e) =
+        let kind = e.2 in
+        let first : e.0 ≡ f = cc in
+        let many : e.1 ≡ n = cc in
+        ap (λ b. cond b answer.Given answer.NotTaken) (taken_run s f n (rw many at rw first at e.3))
 
 -- what `IsGiven` says of the first request of a run
 gives_first : (s : PlainSet) (request : Request) (requests : List Request) (page : ℕ) →

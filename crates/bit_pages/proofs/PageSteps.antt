@@ -6,12 +6,12 @@ use Rattle.bittle.specs.PlainSet.{PlainSet, complement, has_changed, is_in_span,
 use Rattle.bittle.proofs.CallerChanges.{size_added, size_removed}
 use Rattle.bittle_ext.specs.Runs.{IsFirstRun}
 use Rattle.bit_pages.specs.PageLaws.{IsLeastFree, asks_back, gives, gives_back, pages_back, pages_given}
-use Rattle.bit_pages.specs.Pages.{is_taken, is_run_taken, least_free, first_free_run, page_or_full, run_or_none, with_found, with_run, without_page, answer_to, state_after}
+use Rattle.bit_pages.specs.Pages.{is_taken, is_free_page, is_run_taken, least_free, first_free_run, page_or_full, run_or_none, with_found, with_page, with_run, without_page, answer_to, state_after}
 use Rattle.bit_pages.specs.declared.Answer.TheVariants as answer
 use Rattle.bit_pages.specs.declared.Request.{Request}
-use Rattle.bit_pages.specs.declared.Request.TheVariants.{Take, GiveBack, TakeRun, GiveBackRun}
+use Rattle.bit_pages.specs.declared.Request.TheVariants.{Take, TakeAt, GiveBack, TakeRun, GiveBackRun}
 use Rattle.bit_pages.proofs.FreeRuns.{first_free_run-is, run_taken}
-use Rattle.bit_pages.proofs.LeastFree.{least_free-is, taken-within, taken-member}
+use Rattle.bit_pages.proofs.LeastFree.{least_free-is, free_page, taken-within, taken-member}
 use Rattle.bit_pages.proofs.RunCounts.{given_counts, run_counts, run_is_free}
 
 -- a step from s to t: pages that pass `out` were free and are handed out, and pages that pass
@@ -64,6 +64,21 @@ page_step s (Some q) least = record {
   was_free = λ page e. ap s.has (eqb-true page q e) ∙ least.is_free;
   within = λ page e. omega (arith, eqb-true page q e, least.within);
   counts = omega (arith, size_added s q least.within least.is_free);
+}
+
+-- the step of a request for a chosen page
+chosen_step : (s : PlainSet) (p : ℕ) (b : Bool) → b ≡ is_free_page s p →
+    IsStep s (cond b (with_page s p) s)
+    (gives (TakeAt p) (cond b (answer.Page p) answer.NotFree)) (λ _. false)
+    (pages_given (TakeAt p) (cond b (answer.Page p) answer.NotFree))
+    (pages_back (TakeAt p) (cond b (answer.Page p) answer.NotFree))
+chosen_step s p false is = nothing s (λ _. false) (λ _. refl)
+chosen_step s p true is = let free = free_page s p (sym is) in record {
+  capacity = refl;
+  has = λ page. refl;
+  was_free = λ page e. ap s.has (eqb-true page p e) ∙ free.1;
+  within = λ page e. omega (arith, eqb-true page p e, free.0);
+  counts = omega (arith, size_added s p free.0 free.1);
 }
 
 -- the step of a request to give a page back
@@ -122,6 +137,7 @@ pub step : (s : PlainSet) (request : Request) →
     IsStep s (state_after s request) (gives request (answer_to s request)) (gives_back s request)
     (pages_given request (answer_to s request)) (pages_back request (answer_to s request))
 step s Take = page_step s (least_free s) (least_free-is s)
+step s (TakeAt p) = chosen_step s p (is_free_page s p) refl
 step s (GiveBack p) = back_step s p (is_taken s p) refl
 step s (TakeRun n) = run_step s n (first_free_run s n) (first_free_run-is s n)
 step s (GiveBackRun f n) = back_run_step s f n (is_run_taken s f n) refl
@@ -131,6 +147,7 @@ pub given_back : (s : PlainSet) (request : Request) (page : ℕ) →
     gives_back s request page ≡ true →
     (asks_back request page ≡ true) × (answer_to s request ≡ answer.Given)
 given_back s Take page e = absurd (cc)
+given_back s (TakeAt p) page e = absurd (cc)
 given_back s (GiveBack p) page e =
     let parts = and_parts (page == p) (is_taken s p) e in (parts.0, rw parts.1 refl)
 given_back s (TakeRun n) page e = absurd (cc)

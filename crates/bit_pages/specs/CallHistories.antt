@@ -1,5 +1,5 @@
--- A history of calls of take, give_back, take_run and give_back_run: each call has a request and an
--- answer.
+-- A history of calls of take, take_at, give_back, take_run and give_back_run: each call has a
+-- request and an answer.
 use Rattle.std.specs.Prelude.{◌≡◌, List, [], ◌∷◌, map}
 use Rattle.bittle.specs.PlainSet.{PlainSet}
 use Rattle.bit_pages.specs.Pages.{answer_to, state_after, request_answers, final_state}

@@ -1,14 +1,14 @@
 -- Laws of the page machine, for all requests and all lists of requests.
 use Rattle.std.specs.List.{filter, list_any, IsDistinct}
 use Rattle.std.specs.Option.{option_map}
-use Rattle.std.specs.Prelude.{◌≡◌, ℕ, zero, suc, ◌+◌, ◌<◌, ◌↔◌, Bool, true, false, not, ◌&&◌, ◌||◌, ◌==◌, Some, List, [], ◌∷◌, ◌++◌, slice_get, take}
+use Rattle.std.specs.Prelude.{◌≡◌, ℕ, zero, suc, ◌+◌, ◌<◌, ◌↔◌, ◌⊎◌, Bool, true, false, not, ◌&&◌, ◌||◌, ◌==◌, Some, List, [], ◌∷◌, ◌++◌, slice_get, take}
 use Rattle.bittle.specs.PlainSet.{PlainSet, complement, is_in_span, size}
 use Rattle.bittle_ext.specs.Runs.{IsFirstRun, IsRun}
 use Rattle.bit_pages.specs.Pages.{is_taken, is_run_taken, answer_to, state_after, request_answers, final_state}
 use Rattle.bit_pages.specs.declared.Request.{Request}
-use Rattle.bit_pages.specs.declared.Request.TheVariants.{Take, GiveBack, TakeRun, GiveBackRun}
+use Rattle.bit_pages.specs.declared.Request.TheVariants.{Take, TakeAt, GiveBack, TakeRun, GiveBackRun}
 use Rattle.bit_pages.specs.declared.Answer.{Answer}
-use Rattle.bit_pages.specs.declared.Answer.TheVariants.{Page, Full, Given, NotTaken, Run, NoRun}
+use Rattle.bit_pages.specs.declared.Answer.TheVariants.{Page, Full, NotFree, Given, NotTaken, Run, NoRun}
 
 -- the number is a page, it is free, and all pages below it are taken
 pub record IsLeastFree (s : PlainSet) (page : ℕ) : Type 0 where
@@ -16,11 +16,17 @@ pub record IsLeastFree (s : PlainSet) (page : ℕ) : Type 0 where
   pub is_free : s.has page ≡ false
   pub taken_below : (k : ℕ) → k < page → s.has k ≡ true
 
--- a page is answered exactly if a page is asked for and this page is the least free one
-abbrev pub PagesAreLeastFree : Type 0
-PagesAreLeastFree =
+-- the number is a page, and it is free
+abbrev pub IsFree : PlainSet → ℕ → Type 0
+IsFree s page = (page < s.capacity) × (s.has page ≡ false)
+
+-- a page is answered exactly if any page is asked for and this page is the least free one, or if
+-- this page is asked for and free
+abbrev pub PagesAreFree : Type 0
+PagesAreFree =
     (s : PlainSet) (request : Request) (page : ℕ)
-    → (answer_to s request ≡ Page page) ↔ ((request ≡ Take) × IsLeastFree s page)
+    → (answer_to s request ≡ Page page)
+    ↔ (((request ≡ Take) × IsLeastFree s page) ⊎ ((request ≡ TakeAt page) × IsFree s page))
 
 -- a run of pages is answered exactly if a run is asked for and this run is the first free run of
 -- its length
@@ -30,11 +36,18 @@ RunsAreFirst =
     → (answer_to s request ≡ Run first) ↔ ((length : ℕ) × (request ≡ TakeRun length)
     × IsFirstRun (complement s) 0 length (Some first))
 
--- Full is answered exactly if a page is asked for and all pages are taken
+-- Full is answered exactly if any page is asked for and all pages are taken
 abbrev pub FullExactlyIfAllAreTaken : Type 0
 FullExactlyIfAllAreTaken =
     (s : PlainSet) (request : Request)
     → (answer_to s request ≡ Full) ↔ ((request ≡ Take) × (size s ≡ s.capacity))
+
+-- NotFree is answered exactly if one page is asked for that is not a free page
+abbrev pub NotFreeExactlyIfNotFree : Type 0
+NotFreeExactlyIfNotFree =
+    (s : PlainSet) (request : Request)
+    → (answer_to s request ≡ NotFree)
+    ↔ ((page : ℕ) × (request ≡ TakeAt page) × (IsFree s page → ⊥))
 
 -- NoRun is answered exactly if a run of pages is asked for and no free run has that length
 abbrev pub NoRunExactlyIfNoneIsFree : Type 0
@@ -42,6 +55,14 @@ NoRunExactlyIfNoneIsFree =
     (s : PlainSet) (request : Request)
     → (answer_to s request ≡ NoRun) ↔ ((length : ℕ) × (request ≡ TakeRun length)
     × ((first : ℕ) → IsRun (complement s) length first → ⊥))
+
+-- Given is answered exactly if pages are given back and each of them is taken
+abbrev pub GivenExactlyIfTaken : Type 0
+GivenExactlyIfTaken =
+    (s : PlainSet) (request : Request)
+    → (answer_to s request ≡ Given)
+    ↔ (((page : ℕ) × (request ≡ GiveBack page) × (is_taken s page ≡ true))
+    ⊎ ((first : ℕ) × (length : ℕ) × (request ≡ GiveBackRun first length) × IsRun s length first))
 
 -- each request of a list is answered in the state that the requests before it leave, and there is
 -- no other answer
@@ -54,6 +75,7 @@ AnswersAreOfTheirStates =
 -- how many pages a request asks for, or gives back
 abbrev pub length_of : Request → ℕ
 length_of Take = 1
+length_of (TakeAt page) = 1
 length_of (GiveBack page) = 1
 length_of (TakeRun length) = length
 length_of (GiveBackRun first length) = length
@@ -62,6 +84,7 @@ length_of (GiveBackRun first length) = length
 abbrev pub pages_given : Request → Answer → ℕ
 pages_given request (Page page) = 1
 pages_given request Full = 0
+pages_given request NotFree = 0
 pages_given request Given = 0
 pages_given request NotTaken = 0
 pages_given request (Run first) = length_of request
@@ -71,6 +94,7 @@ pages_given request NoRun = 0
 abbrev pub pages_back : Request → Answer → ℕ
 pages_back request (Page page) = 0
 pages_back request Full = 0
+pages_back request NotFree = 0
 pages_back request Given = length_of request
 pages_back request NotTaken = 0
 pages_back request (Run first) = 0
@@ -95,6 +119,7 @@ PagesAreCounted =
 abbrev pub gives : Request → Answer → ℕ → Bool
 gives request (Page p) page = page == p
 gives request Full page = false
+gives request NotFree page = false
 gives request Given page = false
 gives request NotTaken page = false
 gives request (Run first) page = is_in_span first (first + length_of request) page
@@ -103,6 +128,7 @@ gives request NoRun page = false
 -- whether a request asks to free the page `page`
 abbrev pub asks_back : Request → ℕ → Bool
 asks_back Take page = false
+asks_back (TakeAt p) page = false
 asks_back (GiveBack p) page = page == p
 asks_back (TakeRun length) page = false
 asks_back (GiveBackRun first length) page = is_in_span first (first + length) page
@@ -150,6 +176,7 @@ held_with held first (suc n) = held_with (held ++ first ∷ []) (suc first) n
 abbrev pub held_after : List ℕ → Request → Answer → List ℕ
 held_after held request (Page page) = held ++ page ∷ []
 held_after held request Full = held
+held_after held request NotFree = held
 held_after held request Given = filter (λ page. not (asks_back request page)) held
 held_after held request NotTaken = held
 held_after held request (Run first) = held_with held first (length_of request)
@@ -169,6 +196,7 @@ outstanding = held_after_run []
 -- whether a request in the state s frees the page `page`, which was taken
 abbrev pub gives_back : PlainSet → Request → ℕ → Bool
 gives_back s Take page = false
+gives_back s (TakeAt p) page = false
 gives_back s (GiveBack p) page = (page == p) && is_taken s p
 gives_back s (TakeRun length) page = false
 gives_back s (GiveBackRun first length) page =

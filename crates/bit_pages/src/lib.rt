@@ -10,7 +10,7 @@ ghost use Rattle.bittle.specs.Searches.{NoneIn};
 ghost use Rattle.bittle.specs.Shapes.{Fits};
 ghost use Rattle.bittle.specs.Values.{set_in};
 ghost use Rattle.bit_pages.specs.PageLaws.{IsLeastFree};
-ghost use Rattle.bit_pages.specs.Pages.{is_taken, least_free, with_page, answer_to, state_after};
+ghost use Rattle.bit_pages.specs.Pages.{is_taken, is_free_page, least_free, with_page, answer_to, state_after};
 ghost use Rattle.bit_pages.specs.Pages.{first_free_run, is_run_taken, request_answers, final_state};
 ghost use Rattle.bittle_ext.specs.Runs.{IsFirstRun, IsRun};
 
@@ -27,6 +27,8 @@ use std::fmt;
 pub enum Request {
     /// Asks for a page: answered by [`Answer::Page`] or [`Answer::Full`].
     Take,
+    /// Asks for a page that you choose: answered by [`Answer::Page`] or [`Answer::NotFree`].
+    TakeAt(u32),
     /// Gives a page back: answered by [`Answer::Given`] or [`Answer::NotTaken`].
     GiveBack(u32),
     /// Asks for a run of neighbouring pages, by its length: answered by [`Answer::Run`] or
@@ -44,6 +46,8 @@ pub enum Answer {
     Page(u32),
     /// All pages are taken.
     Full,
+    /// The page that was asked for is taken, or there is no such page.
+    NotFree,
     /// The page, or the run of pages, is free again.
     Given,
     /// The page, or one page of the run, was not taken.
@@ -145,8 +149,7 @@ impl<B: BitsOwned> Pages<B> {
 
     /// Takes a page that you choose, and returns `true`. If the page is taken, the call changes
     /// nothing and returns `false`. A number past the last page is no page, and does not wrap: the
-    /// call changes nothing and returns `false`. It costs O(1). No request of
-    /// [`serve`](Pages::serve) stands for this call.
+    /// call changes nothing and returns `false`. It costs O(1).
     ///
     /// After `Pages::<u8>::new()`, `take_at(5)` returns `true` once and then `false`; `take_at(8)`
     /// returns `false`.
@@ -164,6 +167,10 @@ impl<B: BitsOwned> Pages<B> {
         ensures pages { let before = set_in B.Shape B.Order.Endian self.old.map in
             set_in B.Shape B.Order.Endian self.new.map
             ≡ cond result (with_page before page) before }
+        ensures whole { result
+            ≡ is_free_page (set_in B.Shape B.Order.Endian self.old.map) page }
+        ensures state { set_in B.Shape B.Order.Endian self.new.map
+            ≡ state_after (set_in B.Shape B.Order.Endian self.old.map) (Request.TakeAt page) }
     {
         if page >= B::bits() || self.is_taken(page) {
             return false;
@@ -323,6 +330,13 @@ impl<B: BitsOwned> Pages<B> {
                 Some(page) => Answer::Page(page),
                 None => Answer::Full,
             },
+            Request::TakeAt(page) => {
+                if self.take_at(page) {
+                    Answer::Page(page)
+                } else {
+                    Answer::NotFree
+                }
+            }
             Request::GiveBack(page) => match self.give_back(page) {
                 Ok(()) => Answer::Given,
                 Err(NotTaken) => Answer::NotTaken,

@@ -3,19 +3,24 @@
 //! contract of `serve` states that `serve` answers as this machine does, and leaves the machine's
 //! last state.
 
-ghost use Rattle.bit_pages.specs.PageLaws.{PagesAreLeastFree, FullExactlyIfAllAreTaken};
-ghost use Rattle.bit_pages.specs.PageLaws.{RunsAreFirst, NoRunExactlyIfNoneIsFree};
+ghost use Rattle.bit_pages.specs.PageLaws.{PagesAreFree, FullExactlyIfAllAreTaken, NotFreeExactlyIfNotFree};
+ghost use Rattle.bit_pages.specs.PageLaws.{RunsAreFirst, NoRunExactlyIfNoneIsFree, GivenExactlyIfTaken};
 ghost use Rattle.bit_pages.specs.PageLaws.{PagesAreGivenBetween, TakenPagesAreGivenFirst};
 ghost use Rattle.bit_pages.specs.CallHistories.{HistoriesAreRuns};
 ghost use Rattle.bit_pages.specs.PageLaws.{AnswersAreOfTheirStates, PagesAreCounted, PagesAreOutstanding};
 
-/// States that a page is answered exactly if a page is asked for and this page is the least free
-/// one.
-pub fn pages_are_least_free()
-    ensures { PagesAreLeastFree }
+/// States that a page is answered exactly if any page is asked for and this page is the least free
+/// one, or if this page is asked for and free.
+pub fn pages_are_free()
+    ensures { PagesAreFree }
 {}
 
-/// States that `Full` is answered exactly if a page is asked for and all are taken.
+/// States that `NotFree` is answered exactly if one page is asked for that is not a free page.
+pub fn not_free_exactly_if_not_free()
+    ensures { NotFreeExactlyIfNotFree }
+{}
+
+/// States that `Full` is answered exactly if any page is asked for and all are taken.
 pub fn full_exactly_if_all_are_taken()
     ensures { FullExactlyIfAllAreTaken }
 {}
@@ -30,6 +35,11 @@ pub fn runs_are_first()
 /// length.
 pub fn no_run_exactly_if_none_is_free()
     ensures { NoRunExactlyIfNoneIsFree }
+{}
+
+/// States that `Given` is answered exactly if pages are given back and each of them is taken.
+pub fn given_exactly_if_taken()
+    ensures { GivenExactlyIfTaken }
 {}
 
 /// States that in every list, request `i` is answered in the state that the earlier requests leave,
@@ -64,8 +74,8 @@ pub fn pages_are_outstanding()
     ensures { PagesAreOutstanding }
 {}
 
-/// States that calls of `take`, `give_back`, `take_run` and `give_back_run` in any sequence answer
-/// as the machine does on the list of their requests. This follows from what the clauses of each
+/// States that calls of `take`, `take_at`, `give_back`, `take_run` and `give_back_run` in any
+/// sequence answer as the machine does on the list of their requests. This follows from what the clauses of each
 /// call say of its answer and of the pages. So each law of lists of requests holds for such calls
 /// too.
 pub fn histories_are_runs()

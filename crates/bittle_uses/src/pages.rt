@@ -219,6 +219,16 @@ pub fn take_both<B: BitsOwned>(pages: &mut Pages<B>, length: u32) -> (Option<u32
     (page, first)
 }
 
+/// Takes the page `page`, and returns whether it was free. The clause says that the call, with what
+/// it returns, is a history of one call.
+pub fn take_chosen<B: BitsOwned>(pages: &mut Pages<B>, page: u32) -> bool
+    ensures { IsHistory (set_in B.Shape B.Order.Endian pages.old.map)
+        ((Request.TakeAt page, if result then Answer.Page page else Answer.NotFree) ∷ [])
+        (set_in B.Shape B.Order.Endian pages.new.map) }
+{
+    pages.take_at(page)
+}
+
 /// Gives back a page and then a run of pages, and returns whether each was taken. The clause says
 /// that the two calls, with what they return, are a history of calls, as that of [`take_both`].
 pub fn give_both_back<B: BitsOwned>(

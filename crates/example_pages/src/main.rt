@@ -2,7 +2,8 @@
 //!
 //! A page is taken if its bit is set. A summary shows which words of the map have a free page. What
 //! is proved: which three pages are free at first. The contract of `Pages` says the rest: a page
-//! that is handed out was free, no lesser page was free, and all are taken if the answer is `Full`.
+//! that is handed out was free, no lesser page was free unless the page was chosen, and all are
+//! taken if the answer is `Full`.
 #![tactic(auto)]
 
 ghost use Rattle.std.specs.Prelude.{◌≡◌, IsTrue};
@@ -30,10 +31,10 @@ fn map_with_three_free() -> Map
 
 /// Lets an allocator serve `requests`, and returns the answers. At first the pages whose bits are
 /// set in `map` are taken.
-fn serve<B: BitsOwned>(map: B, requests: &[Request; 12]) -> [Answer; 12]
+fn serve<B: BitsOwned>(map: B, requests: &[Request; 14]) -> [Answer; 14]
     requires { IsTrue B.indexable }
 {
-    let mut answers = [Answer::Full; 12];
+    let mut answers = [Answer::Full; 14];
     Pages::with_taken(map).serve(requests, &mut answers);
     answers
 }
@@ -42,6 +43,7 @@ fn serve<B: BitsOwned>(map: B, requests: &[Request; 12]) -> [Answer; 12]
 fn print(rt: &HostRuntime, request: Request, answer: Answer) -> io::Result<()> {
     match request {
         Request::Take => print!(rt; "take a page: ")?,
+        Request::TakeAt(page) => print!(rt; "take page {page}: ")?,
         Request::GiveBack(page) => print!(rt; "give page {page} back: ")?,
         Request::TakeRun(length) => print!(rt; "take a run of {length} pages: ")?,
         Request::GiveBackRun(first, length) => {
@@ -51,6 +53,7 @@ fn print(rt: &HostRuntime, request: Request, answer: Answer) -> io::Result<()> {
     match answer {
         Answer::Page(page) => println!(rt; "page {page}"),
         Answer::Full => println!(rt; "all are taken"),
+        Answer::NotFree => println!(rt; "it is not free"),
         Answer::Given => println!(rt; "it is free"),
         Answer::NotTaken => println!(rt; "it was not taken"),
         Answer::Run(first) => println!(rt; "the pages from {first} on"),
@@ -72,9 +75,11 @@ fn main(rt: HostRuntime) -> io::Result<()> {
         Request::TakeRun(2),
         Request::GiveBackRun(131_070, 3),
         Request::TakeRun(2),
+        Request::TakeAt(131_072),
+        Request::TakeAt(131_072),
     ];
     let answers = serve(map_with_three_free(), &requests);
-    for i in 0..12usize {
+    for i in 0..14usize {
         print(&rt, requests[i], answers[i])?;
     }
     Ok(())

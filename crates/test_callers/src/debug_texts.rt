@@ -22,6 +22,7 @@ fn reads<T: Debug>(
 #[test]
 fn requests_are_named_with_their_page(rt: HostRuntime) -> Result<(), Fail> {
     reads(&rt, rt.alloc(), &Request::Take, "Take")?;
+    reads(&rt, rt.alloc(), &Request::TakeAt(7), "TakeAt(7)")?;
     reads(&rt, rt.alloc(), &Request::GiveBack(12), "GiveBack(12)")?;
     reads(&rt, rt.alloc(), &Request::TakeRun(3), "TakeRun(3)")?;
     reads(
@@ -37,6 +38,7 @@ fn requests_are_named_with_their_page(rt: HostRuntime) -> Result<(), Fail> {
 fn answers_are_named_with_their_page(rt: HostRuntime) -> Result<(), Fail> {
     reads(&rt, rt.alloc(), &Answer::Page(1_000_000), "Page(1000000)")?;
     reads(&rt, rt.alloc(), &Answer::Full, "Full")?;
+    reads(&rt, rt.alloc(), &Answer::NotFree, "NotFree")?;
     reads(&rt, rt.alloc(), &Answer::Given, "Given")?;
     reads(&rt, rt.alloc(), &Answer::NotTaken, "NotTaken")?;
     reads(&rt, rt.alloc(), &Answer::Run(12), "Run(12)")?;

@@ -42,10 +42,14 @@ fn chosen_pages_in_the_other_order(rt: HostRuntime) {
 #[test]
 fn requests_of_pages_and_runs(rt: HostRuntime) {
     let mut pages = Pages::with_taken(0b0100_1001u8);
-    let mut answers = [Answer::Full; 9];
+    let mut answers = [Answer::Full; 13];
     let requests = [
         Request::TakeRun(3),
         Request::TakeRun(2),
+        Request::TakeAt(7),
+        Request::TakeAt(7),
+        Request::TakeAt(8),
+        Request::GiveBack(7),
         Request::Take,
         Request::GiveBackRun(1, 2),
         Request::GiveBackRun(0, 2),
@@ -58,6 +62,10 @@ fn requests_of_pages_and_runs(rt: HostRuntime) {
     let expected = [
         Answer::NoRun,
         Answer::Run(1),
+        Answer::Page(7),
+        Answer::NotFree,
+        Answer::NotFree,
+        Answer::Given,
         Answer::Page(4),
         Answer::Given,
         Answer::NotTaken,
@@ -184,6 +192,13 @@ fn answer(taken: &mut [bool; 16], request: Request) -> Answer {
             }
             None => Answer::Full,
         },
+        Request::TakeAt(page) => {
+            if !all_are(taken, page, 1, false) {
+                return Answer::NotFree;
+            }
+            assign(taken, page, 1, true);
+            Answer::Page(page)
+        }
         Request::TakeRun(length) => match first_free(taken, length) {
             Some(first) => {
                 assign(taken, first, length, true);
@@ -220,10 +235,11 @@ fn drawn_requests<B: BitsOwned>(seed: u64) -> bool
             .wrapping_add(1_442_695_040_888_963_407);
         let length = ((state >> 40) % 6) as u32;
         let first = ((state >> 48) % 18) as u32;
-        requests[i] = match (state >> 33) % 6 {
+        requests[i] = match (state >> 33) % 8 {
             0..=1 => Request::Take,
             2 => Request::GiveBack(first),
             3..=4 => Request::TakeRun(length),
+            5..=6 => Request::TakeAt(first),
             _ => Request::GiveBackRun(first, length % 3),
         };
         expected[i] = answer(&mut taken, requests[i]);

@@ -1,8 +1,9 @@
-use Rattle.std.proofs.Common.{◌≡◌, ◌<◌, false, sym, ◌∙◌, arith}
+use Rattle.std.proofs.Common.{◌≡◌, ◌<◌, false, cond, ap, sym, ◌∙◌, arith}
 use Rattle.bittle.specs.PlainSet.{PlainSet}
 use Rattle.bittle.specs.Values.{set_in}
 use Rattle.bittle.proofs.CallerSets.{size_at_most}
-use Rattle.bit_pages.proofs.LeastFree.{free-member}
+use Rattle.bit_pages.specs.Pages.{with_page}
+use Rattle.bit_pages.proofs.LeastFree.{free-member, page_free}
 use Rattle.bit_pages.proofs.TakenPages.{with_it, is_now_taken, others_same, one_more}
 use Rattle.bit_pages.proofs.Pages.take_at.Given.{Over}
 use Rattle.bit_pages.proofs.Pages.take_at.Goals.{After-set_bit}
@@ -53,3 +54,10 @@ pub returns-clause-pages : goal.returns-clause-pages
 returns-clause-pages g c =
     let it = free g (goal.at.returns-clause-pages g c).After-set_bit in
     with_it _ _ c.args.page it.0 it.1 c.set_bit.ensures.set
+
+pub returns-clause-state : goal.returns-clause-state
+returns-clause-state g c =
+    let s : PlainSet = set_in g.B.Shape g.B.Order.Endian c.args.self.now.map in
+    let it = free g (goal.at.returns-clause-state g c).After-set_bit in
+    with_it _ _ c.args.page it.0 it.1 c.set_bit.ensures.set
+    ∙ sym (ap (λ b. cond b (with_page s c.args.page) s) (page_free s c.args.page it))

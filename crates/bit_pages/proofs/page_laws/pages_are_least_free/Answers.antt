@@ -1,5 +1,0 @@
-use Rattle.bit_pages.proofs.PageLaws.{page_is_least}
-use Rattle.bit_pages.proofs.page_laws.pages_are_least_free.Goals as goal
-
-pub returns : goal.returns
-returns c = page_is_least
