@@ -5,9 +5,9 @@ use Rattle.std.specs.Prelude.{MatchOption}
 use Rattle.bittle.specs.PlainSet.{PlainSet, complement, with_span}
 use Rattle.bittle.proofs.CallerSets.{complement_within}
 use Rattle.bittle_ext.specs.Runs.{IsFirstRun, IsRun}
+use Rattle.bittle_ext.proofs.RunCounts.{run_is_unset}
 use Rattle.bit_pages.specs.Pages.{has_some, first_free_run, is_run_taken, with_run}
 use Rattle.bit_pages.proofs.LeastFree.{AllTakenFrom, IsFoundFrom, least_free_from-is}
-use Rattle.bit_pages.proofs.RunCounts.{run_is_free}
 
 module _ (test : ℕ → Bool) where
   -- if none of the n numbers passes, each fails the test
@@ -43,7 +43,7 @@ module _ (s : PlainSet) (n : ℕ) where
     where
       none_begins : (k : ℕ) → taken_from k ≡ true → IsRun (complement s) n k → ⊥
       none_begins k e run =
-          true≢false (sym e ∙ pass_none s.has k n (run_is_free s n k run))
+          true≢false (sym e ∙ pass_none s.has k n (run_is_unset s n k run))
 
       begins : (k : ℕ) → k + n ≤ s.capacity → taken_from k ≡ false → IsRun (complement s) n k
       begins k within e = (

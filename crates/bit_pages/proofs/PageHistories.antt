@@ -3,7 +3,7 @@
 use Rattle.std.proofs.Common.{◌≡◌, ◌≢◌, ℕ, zero, suc, ◌+◌, ◌<◌, ◌≤◌, Bool, true, false, not, cond, ◌&&◌, ◌||◌, ◌==◌, Option, Some, None, List, [], ◌∷◌, ◌++◌, inl, inr, refl, sym, ap, ◌∙◌, arith}
 use Rattle.std.specs.List.{filter, list_any, IsDistinct, AllByRecursion}
 use Rattle.std.proofs.lemmas.Cmp.{nat_eq_equiv}
-use Rattle.std.proofs.Math.Bool.{or-false}
+use Rattle.std.proofs.Math.Bool.{and-true, and-false, or_comm, or-false}
 use Rattle.std.proofs.lemmas.Bool.{cases_eq, cases_lt, eqb-true, eq-eqb, ne_eqb, or_from, or_parts, true≢false}
 use Rattle.std.proofs.lemmas.List.Folds.{list_any-append}
 use Rattle.std.proofs.lemmas.Map.Keys.{IsDistinct-head, IsDistinct-tail, IsDistinct-cons, IsDistinct-push}
@@ -13,6 +13,7 @@ use Rattle.std.specs.Prelude.{MatchOption, slice_get, take}
 use Rattle.bittle.specs.PlainSet.{PlainSet, complement, is_in_span, size}
 use Rattle.bittle_bits.proofs.Spans.{is_in_span-inside, is_in_span-outside}
 use Rattle.bittle_ext.specs.Runs.{IsFirstRun}
+use Rattle.bittle_ext.proofs.RunCounts.{run_is_unset}
 use Rattle.bit_pages.specs.PageLaws.{IsLeastFree, asks_back, gives, pages_back, pages_given, total, held_with, held_after, held_after_run, outstanding, gives_back, came_back, AreOutstanding}
 use Rattle.bit_pages.specs.Pages.{is_taken, is_free_page, is_run_taken, least_free, first_free_run, page_or_full, run_or_none, answer_to, state_after, request_answers, final_state}
 use Rattle.bit_pages.specs.declared.Answer.TheVariants as answer
@@ -21,7 +22,6 @@ use Rattle.bit_pages.specs.declared.Request.TheVariants.{Take, TakeAt, GiveBack,
 use Rattle.bit_pages.proofs.FreeRuns.{first_free_run-is}
 use Rattle.bit_pages.proofs.LeastFree.{least_free-is, free_page}
 use Rattle.bit_pages.proofs.PageSteps.{step}
-use Rattle.bit_pages.proofs.RunCounts.{run_is_free}
 
 -- each request of a list is answered in the state that the requests before it leave
 pub answered_at : (s : PlainSet) (requests : List Request) (i : ℕ) →
@@ -181,14 +181,6 @@ same_held held back none d = record {
   any = λ page. sym (ap (λ b. not b && list_any (◌==◌ page) held) (none page));
 }
 
-none_back : (b : Bool) → (b && false) ≡ false
-none_back true = refl
-none_back false = refl
-
-all_back : (b : Bool) → (b && true) ≡ b
-all_back true = refl
-all_back false = refl
-
 -- the pages that are held after each request
 module _ (s : PlainSet) (held : List ℕ) (kept : ℕ → Bool) (h : AreHeld s held kept) where
   -- a page that is free is not held
@@ -201,14 +193,8 @@ module _ (s : PlainSet) (held : List ℕ) (kept : ℕ → Bool) (h : AreHeld s h
       AreHeldAfter held (held ++ q ∷ []) (λ page. page == q) (λ _. false)
   held_page q free = record {
     distinct = IsDistinct-push nat_eq_equiv held q h.distinct (not_held q free);
-    any = λ page. any_push page q held ∙ swap_or (list_any (◌==◌ page) held) (page == q);
+    any = λ page. any_push page q held ∙ or_comm (list_any (◌==◌ page) held) (page == q);
   }
-    where
-      swap_or : (x y : Bool) → (x || y) ≡ (y || x)
-      swap_or true true = refl
-      swap_or true false = refl
-      swap_or false true = refl
-      swap_or false false = refl
 
   held_take : (o : Option ℕ) → MatchOption o ((k : ℕ) → k < s.capacity → s.has k ≡ true)
       (IsLeastFree s) → AreHeldAfter held (held_after held Take (page_or_full o))
@@ -228,7 +214,7 @@ module _ (s : PlainSet) (held : List ℕ) (kept : ℕ → Bool) (h : AreHeld s h
   held_run n None none = same_held held (λ _. false) (λ _. refl) h.distinct
   held_run n (Some f) first = record {
     distinct = with_distinct held f n h.distinct
-        (λ k p q. not_held k (run_is_free s n f first.1 k p q));
+        (λ k p q. not_held k (run_is_unset s n f first.1 k p q));
     any = λ page. any_with page held f n;
   }
 
@@ -236,11 +222,11 @@ module _ (s : PlainSet) (held : List ℕ) (kept : ℕ → Bool) (h : AreHeld s h
       AreHeldAfter held (held_after held request (cond b answer.Given answer.NotTaken))
       (gives request (cond b answer.Given answer.NotTaken)) (λ page. asks_back request page && b)
   held_back request false = same_held held (λ page. asks_back request page && false)
-      (λ page. none_back (asks_back request page)) h.distinct
+      (λ page. and-false (asks_back request page)) h.distinct
   held_back request true = record {
     distinct = filter_distinct (λ r. not (asks_back request r)) held h.distinct;
     any = λ page. kept_by (asks_back request) page held
-        ∙ sym (ap (λ b. not b && list_any (◌==◌ page) held) (all_back (asks_back request page)));
+        ∙ sym (ap (λ b. not b && list_any (◌==◌ page) held) (and-true (asks_back request page)));
   }
 
   held_next : (request : Request) →
@@ -281,7 +267,7 @@ held_on_run s held kept [] h = record {
   distinct = h.distinct;
   apart = λ page e. ap (λ b. b && true) (h.apart page e);
   taken = λ page. h.taken page
-      ∙ ap (λ b. list_any (◌==◌ page) held || b) (sym (all_back (kept page)));
+      ∙ ap (λ b. list_any (◌==◌ page) held || b) (sym (and-true (kept page)));
 }
 held_on_run s held kept (request ∷ requests) h =
     let next = state_after s request in

@@ -1,10 +1,12 @@
 -- What one request does: which pages it gives, which come back, and how many.
 use Rattle.std.proofs.Common.{◌≡◌, ℕ, ◌+◌, ◌<◌, ◌≤◌, ◌⊎◌, Bool, true, false, not, cond, ◌&&◌, ◌||◌, ◌==◌, nat_le, nat_lt, Option, Some, None, inl, inr, refl, sym, ap, ◌∙◌, arith}
+use Rattle.std.proofs.Math.Bool.{and-true, and-false}
 use Rattle.std.proofs.lemmas.Bool.{cases_Bool, eqb-true, leb-true, ltb-true, and_parts, or_left, or_right, true≢false}
 use Rattle.std.specs.Prelude.{MatchOption}
 use Rattle.bittle.specs.PlainSet.{PlainSet, complement, has_changed, is_in_span, size, without_span}
 use Rattle.bittle.proofs.CallerChanges.{size_added, size_removed}
 use Rattle.bittle_ext.specs.Runs.{IsFirstRun}
+use Rattle.bittle_ext.proofs.RunCounts.{run_is_unset, size_with_run}
 use Rattle.bit_pages.specs.PageLaws.{IsLeastFree, asks_back, gives, gives_back, pages_back, pages_given}
 use Rattle.bit_pages.specs.Pages.{is_taken, is_free_page, is_run_taken, least_free, first_free_run, page_or_full, run_or_none, with_found, with_page, with_run, without_page, answer_to, state_after}
 use Rattle.bit_pages.specs.declared.Answer.TheVariants as answer
@@ -12,7 +14,7 @@ use Rattle.bit_pages.specs.declared.Request.{Request}
 use Rattle.bit_pages.specs.declared.Request.TheVariants.{Take, TakeAt, GiveBack, TakeRun, GiveBackRun}
 use Rattle.bit_pages.proofs.FreeRuns.{first_free_run-is, run_taken}
 use Rattle.bit_pages.proofs.LeastFree.{least_free-is, free_page, taken-within, taken-member}
-use Rattle.bit_pages.proofs.RunCounts.{given_counts, run_counts, run_is_free}
+use Rattle.bit_pages.proofs.RunCounts.{given_counts}
 
 -- a step from s to t: pages that pass `out` were free and are handed out, and pages that pass
 -- `back` come back; `given` and `less` count these pages
@@ -33,15 +35,6 @@ nothing s back none = record {
   within = λ page e. absurd (cc);
   counts = refl;
 }
-
--- `b && true` is b, and `b && false` is false
-and_true : (b : Bool) → (b && true) ≡ b
-and_true true = refl
-and_true false = refl
-
-and_false : (b : Bool) → (b && false) ≡ false
-and_false true = refl
-and_false false = refl
 
 -- whether a page is taken after a span was taken, and after a span was given back
 taken_or : (b c : Bool) → cond b true c ≡ (b || c)
@@ -87,10 +80,10 @@ back_step : (s : PlainSet) (p : ℕ) (b : Bool) → b ≡ is_taken s p →
     answer.NotTaken)) (λ page. (page == p) && b)
     (pages_given (GiveBack p) (cond b answer.Given answer.NotTaken))
     (pages_back (GiveBack p) (cond b answer.Given answer.NotTaken))
-back_step s p false is = nothing s (λ page. (page == p) && false) (λ page. and_false (page == p))
+back_step s p false is = nothing s (λ page. (page == p) && false) (λ page. and-false (page == p))
 back_step s p true is = record {
   capacity = refl;
-  has = λ page. sym (ap (λ b. not b && s.has page) (and_true (page == p)));
+  has = λ page. sym (ap (λ b. not b && s.has page) (and-true (page == p)));
   was_free = λ page e. absurd (cc);
   within = λ page e. absurd (cc);
   counts = omega (arith, size_removed s p (taken-within s p (sym is)) (taken-member s p (sym is)));
@@ -107,12 +100,12 @@ run_step s n (Some f) first = record {
   has = λ page. taken_or (is_in_span f (f + n) page) (s.has page);
   was_free = λ page e.
       let parts = and_parts (nat_le f page) (nat_lt page (f + n)) e in
-      run_is_free s n f first.1 page (leb-true f page parts.0) (ltb-true page (f + n) parts.1);
+      run_is_unset s n f first.1 page (leb-true f page parts.0) (ltb-true page (f + n) parts.1);
   within = λ page e.
       let parts = and_parts (nat_le f page) (nat_lt page (f + n)) e in
       let end : f + n ≤ s.capacity = first.1.0 in
       omega (arith, ltb-true page (f + n) parts.1, end);
-  counts = omega (arith, run_counts s n f first.1);
+  counts = omega (arith, size_with_run s n f first.1);
 }
 
 -- the step of a request to give a run of pages back
@@ -123,7 +116,7 @@ back_run_step : (s : PlainSet) (f n : ℕ) (b : Bool) → b ≡ is_run_taken s f
     (pages_back (GiveBackRun f n) (cond b answer.Given answer.NotTaken))
 unfolding has_changed
 back_run_step s f n false is = nothing s (λ page. is_in_span f (f + n) page && false)
-    (λ page. and_false (is_in_span f (f + n) page))
+    (λ page. and-false (is_in_span f (f + n) page))
 back_run_step s f n true is = record {
   capacity = refl;
   has = λ page. free_or (is_in_span f (f + n) page) (s.has page);

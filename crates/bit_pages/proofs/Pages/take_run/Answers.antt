@@ -3,16 +3,16 @@ use Rattle.bittle.specs.PlainSet.{PlainSet, size}
 use Rattle.bittle.specs.Values.{set_in}
 use Rattle.bittle.proofs.CallerSets.{size_at_most}
 use Rattle.bittle_ext.specs.Runs.{IsRun}
+use Rattle.bittle_ext.proofs.RunCounts.{run_is_unset}
 use Rattle.bit_pages.proofs.FreeRuns.{first_run_is, run_state}
-use Rattle.bit_pages.proofs.RunCounts.{run_counts, run_is_free, run_is_taken}
+use Rattle.bit_pages.proofs.RunCounts.{run_is_taken}
 use Rattle.bit_pages.proofs.Pages.take_run.Goals as goal
 
 pub overflow_add-self : goal.overflow_add-self
 overflow_add-self g c =
     let old : PlainSet = set_in g.B.Shape g.B.Order.Endian c.args.self.now.map in
     let new : PlainSet = set_in g.B.Shape g.B.Order.Endian c.take_first_zero_run.new.self in
-    let more : size new ≡ size old + c.args.length = ap size c.in_ok-first.ensures.set
-    ∙ run_counts old c.args.length c.in_ok-first.first c.in_ok-first.ensures.first.1 in
+    let more : size new ≡ size old + c.args.length = c.in_ok-first.ensures.more in
     let capacity = g.met.B.FixedCapacity.one_capacity c.take_first_zero_run.new.self in
     omega (arith, more, size_at_most new, capacity, c.args.self.now.counted, c.args.self.now.fits.1)
 
@@ -20,14 +20,13 @@ pub invariant_of-self-2 : goal.invariant_of-self-2
 invariant_of-self-2 g c =
     let old : PlainSet = set_in g.B.Shape g.B.Order.Endian c.args.self.now.map in
     let new : PlainSet = set_in g.B.Shape g.B.Order.Endian c.take_first_zero_run.new.self in
-    let more : size new ≡ size old + c.args.length = ap size c.in_ok-first.ensures.set
-    ∙ run_counts old c.args.length c.in_ok-first.first c.in_ok-first.ensures.first.1 in
+    let more : size new ≡ size old + c.args.length = c.in_ok-first.ensures.more in
     record { fits = c.args.self.now.fits; counted = omega (arith, more, c.args.self.now.counted) }
 
 pub returns-clause-were_free : goal.returns-clause-were_free
 returns-clause-were_free g c =
     let old : PlainSet = set_in g.B.Shape g.B.Order.Endian c.args.self.now.map in
-    run_is_free old c.args.length c.in_ok-first.first c.in_ok-first.ensures.first.1
+    run_is_unset old c.args.length c.in_ok-first.first c.in_ok-first.ensures.first.1
 
 pub returns-clause-taken : goal.returns-clause-taken
 returns-clause-taken g c =
