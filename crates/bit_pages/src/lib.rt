@@ -102,12 +102,21 @@ impl<B: BitsOwned> Pages<B> {
     /// set bits, which costs O(words).
     pub fn with_taken(map: B) -> Pages<B>
         requires { IsTrue B.indexable }
-        ensures { set_in B.Shape B.Order.Endian result.map ≡ set_in B.Shape B.Order.Endian map }
+        ensures set { set_in B.Shape B.Order.Endian result.map
+            ≡ set_in B.Shape B.Order.Endian map }
+        ensures map { result.map ≡ map }
     {
         Pages {
             map,
             count: map.count_ones(),
         }
+    }
+
+    /// Lends the map of the pages that are taken. A loop over its set bits visits these pages.
+    pub fn map(&self) -> &B
+        ensures { result.now ≡ self.now.map }
+    {
+        &self.map
     }
 
     /// Returns the map of the pages that are taken.
@@ -204,7 +213,7 @@ impl<B: BitsOwned> Pages<B> {
 
     /// Takes the first run of `length` neighbouring free pages, and returns the least of them. If
     /// there is no such run, the call changes nothing and returns `None`. With `length` 0 it takes
-    /// nothing and returns page 0, even if all pages are taken or the capacity is 0.
+    /// nothing and returns 0, even if all pages are taken or the capacity is 0.
     ///
     /// If `length` is at most the width of four words, the call reads each word once, up to the end
     /// of the run. If `length` is greater, each free run that is too short costs two searches of

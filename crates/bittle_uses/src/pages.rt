@@ -1,16 +1,17 @@
 //! Callers of an allocator of pages. What one call promises is what the next call requires. No
 //! caller has a proof file.
 
-ghost use Rattle.std.specs.Prelude.{◌≡◌, ◌≢◌, ◌+◌, ◌<◌, ◌≤◌, IfSome, IsTrue, true, length};
-ghost use Rattle.std.specs.Prelude.{if◌then◌else◌, map, [], ◌∷◌, List};
+ghost use Rattle.std.specs.Prelude.{◌≡◌, ◌≢◌, ◌+◌, ◌-◌, ◌<◌, IfSome, IsTrue, MatchOption, true, length};
+ghost use Rattle.std.specs.Prelude.{if◌then◌else◌, map, slice_set, [], ◌∷◌, List};
 ghost use Rattle.bit_pages.specs.CallHistories.{IsHistory};
 ghost use Rattle.bit_pages.specs.PageLaws.{pages_back, pages_given, total};
-ghost use Rattle.bit_pages.specs.Pages.{is_taken, page_or_full, run_or_none};
+ghost use Rattle.bit_pages.specs.Pages.{is_taken, least_free, page_or_full, run_or_none};
+ghost use Rattle.bittle.specs.BitPatterns.{bit_set};
 ghost use Rattle.bittle.specs.Values.{set_in};
 ghost use Rattle.bittle.specs.PlainSet.{PlainSet, empty_set, size};
 
 use bit_pages::{Answer, Pages, Request, page_laws};
-use bittle::BitsOwned;
+use bittle::{Bits, BitsOwned};
 
 /// Returns an allocator in which no page is taken, or `None` if the type has too many bits.
 pub fn new_pool<B: BitsOwned>() -> Option<Pages<B>>
@@ -26,7 +27,8 @@ pub fn new_pool<B: BitsOwned>() -> Option<Pages<B>>
 /// Takes the first page of a new allocator. The type has to fit, as `Pages::new` requires.
 pub fn first_page<B: BitsOwned>() -> Option<u32>
     requires { IsTrue B.indexable }
-    ensures { IfSome result (λ page. page < B.type_capacity) }
+    ensures page { result ≡ least_free (empty_set B.type_capacity) }
+    ensures below { IfSome result (λ page. page < B.type_capacity) }
 {
     let mut pages = Pages::<B>::new();
     pages.take()
@@ -87,7 +89,7 @@ pub fn take_if_not_full<B: BitsOwned>(pages: &mut Pages<B>) -> bool
 }
 
 /// Takes the pages `one` and `other`, and returns whether `one` is taken afterwards. The result is
-/// always `true` if `one` is a page.
+/// always `true` if `one` is a page and `other` is another number.
 pub fn reserve_both<B: BitsOwned>(pages: &mut Pages<B>, one: u32, other: u32) -> bool
     ensures { one < B.type_capacity → one ≢ other → result ≡ true }
 {
@@ -123,7 +125,10 @@ pub fn reserve_and_count<B: BitsOwned>(pages: &mut Pages<B>, one: u32) -> Option
 }
 
 /// Writes `owner` to the entry of a page in `owners`, if the page is taken.
-pub fn own(pages: &Pages<u8>, owners: &mut [u32; 8], page: u32, owner: u32) {
+pub fn own(pages: &Pages<u8>, owners: &mut [u32; 8], page: u32, owner: u32)
+    ensures { owners.new ≡ if is_taken (bit_set 8 pages.now.map) page
+        then slice_set owners.old page owner else owners.old }
+{
     if pages.is_taken(page) {
         owners[page as usize] = owner;
     }
@@ -131,15 +136,38 @@ pub fn own(pages: &Pages<u8>, owners: &mut [u32; 8], page: u32, owner: u32) {
 
 /// Takes a page, writes `owner` to its entry of `owners`, and returns the page. Returns `None` if
 /// no page is free.
-pub fn take_for(pages: &mut Pages<u8>, owners: &mut [u32; 8], owner: u32) -> Option<u32> {
+pub fn take_for(pages: &mut Pages<u8>, owners: &mut [u32; 8], owner: u32) -> Option<u32>
+    ensures page { result ≡ least_free (bit_set 8 pages.old.map) }
+    ensures owners { MatchOption result (owners.new ≡ owners.old)
+        (λ page. owners.new ≡ slice_set owners.old page owner) }
+{
     let page = pages.take()?;
     owners[page as usize] = owner;
     Some(page)
 }
 
+/// Writes `owner` to the entry of each taken page in `owners`. Then it takes a page and returns it,
+/// or `None` if no page is free.
+pub fn own_all(pages: &mut Pages<u8>, owners: &mut [u32; 8], owner: u32) -> Option<u32>
+    ensures { result ≡ least_free (bit_set 8 pages.old.map) }
+{
+    for page in pages.map().iter_ones() {
+        owners[page as usize] = owner;
+    }
+    pages.take()
+}
+
+/// Makes an allocator of `map`, and returns its map, which is `map` again.
+pub fn there_and_back<B: BitsOwned>(map: B) -> B
+    requires { IsTrue B.indexable }
+    ensures { result ≡ map }
+{
+    Pages::with_taken(map).into_map()
+}
+
 /// Counts the free pages as 8 minus the taken ones.
 pub fn count_free(pages: &Pages<u8>) -> u32
-    ensures { result ≤ 8 }
+    ensures { result ≡ 8 - size (bit_set 8 pages.now.map) }
 {
     8 - pages.taken()
 }
