@@ -9,7 +9,7 @@ ghost use Rattle.std.specs.Prelude.{◌≡◌, ◌+◌, ◌≤◌, MatchBool, Ma
 ghost use Rattle.bittle.specs.BitPatterns.{bit_set};
 ghost use Rattle.bittle.specs.PlainSet.{complement, with_span, without_span};
 ghost use Rattle.bittle.specs.Rows.{row_set};
-ghost use Rattle.bittle_ext.specs.RangeMembers.{HasAllIn};
+ghost use Rattle.bittle_ext.specs.RangeMembers.{HasAllIn, LacksSomeIn};
 ghost use Rattle.bittle_ext.specs.Runs.{IsFirstRun};
 
 use bittle::BitsMut;
@@ -46,7 +46,8 @@ impl Pool {
             MatchBool result
             ((first + pages ≤ 128) × HasAllIn before first (first + pages)
             × (row_set 2 64 (bit_set 64) self.new.taken ≡ without_span before first (first + pages)))
-            (self.new.taken ≡ self.old.taken) }
+            ((self.new.taken ≡ self.old.taken)
+            × (first + pages ≤ 128 → LacksSomeIn before first (first + pages))) }
     {
         if first > PAGES || pages > PAGES - first {
             return false;
