@@ -1,9 +1,9 @@
 //! A set in which some bits are always set, such as the reserved addresses of an allocator. Ghost
 //! fields of the type promise that these bits are set. No function has a proof file.
 
-ghost use Rattle.std.specs.Prelude.{◌≡◌, ◌+◌, ◌<◌, ◌≤◌, true, false, IfSome};
+ghost use Rattle.std.specs.Prelude.{◌≡◌, ◌+◌, ◌<◌, ◌≤◌, true, false, IfSome, IsTrue};
 ghost use Rattle.bittle.specs.BitPatterns.{bit_set};
-ghost use Rattle.bittle.specs.PlainSet.{contains};
+ghost use Rattle.bittle.specs.PlainSet.{contains, without_index};
 ghost use Rattle.bittle.specs.Rows.{row_set};
 ghost use Rattle.bittle_ext.specs.ReservedSpans.{has_span};
 
@@ -44,7 +44,16 @@ impl Leases {
     /// Releases `address`, and returns whether it was leased. For a reserved address, and for an
     /// address of 256 or more, it returns `false` and changes nothing.
     #[tactic(auto, using(bittle_ext::proofs::CallerSpans::has_span_after_clear, bittle_ext::proofs::CallerSpans::has_span_after_clear_past))]
-    pub fn release(&mut self, address: u32) -> bool {
+    pub fn release(&mut self, address: u32) -> bool
+        ensures was_leased { 10 ≤ address → address < 250
+            → result ≡ contains (row_set 4 64 (bit_set 64) self.old.leased) address }
+        ensures not_reserved { IsTrue result → (10 ≤ address) × (address < 250) }
+        ensures is_free { 10 ≤ address → address < 250
+            → row_set 4 64 (bit_set 64) self.new.leased
+            ≡ without_index (row_set 4 64 (bit_set 64) self.old.leased) address }
+        ensures reserved_stays { (address < 10 → self.new.leased ≡ self.old.leased)
+            × (250 ≤ address → self.new.leased ≡ self.old.leased) }
+    {
         10 <= address && address < 250 && self.leased.remove(address)
     }
 
