@@ -14,7 +14,7 @@ use Rattle.bittle.specs.PlainSet.{PlainSet, complement, is_in_span, size}
 use Rattle.bittle_bits.proofs.Spans.{is_in_span-inside, is_in_span-outside}
 use Rattle.bittle_ext.specs.Runs.{IsFirstRun}
 use Rattle.bittle_ext.proofs.RunCounts.{run_is_unset}
-use Rattle.bit_pages.specs.PageLaws.{IsLeastFree, asks_back, gives, pages_back, pages_given, total, held_with, held_after, held_after_run, outstanding, gives_back, came_back, AreOutstanding}
+use Rattle.bit_pages.specs.PageLaws.{IsLeastFree, asks_back, hands_out, pages_back, pages_handed_out, total, held_with, held_after, held_after_list, outstanding, gives_back, came_back, AreOutstanding}
 use Rattle.bit_pages.specs.Pages.{is_taken, is_free_page, is_run_taken, least_free, first_free_run, page_or_full, run_or_none, answer_to, state_after, request_answers, final_state}
 use Rattle.bit_pages.specs.declared.Answer.TheVariants as answer
 use Rattle.bit_pages.specs.declared.Request.{Request}
@@ -35,7 +35,7 @@ answered_at s (request ∷ requests) (suc i) = answered_at (state_after s reques
 -- the pages of a list of requests add up, as `PagesAreCounted` states
 pub counted : (s : PlainSet) (requests : List Request) →
     size (final_state s requests) + total pages_back requests (request_answers s requests)
-    ≡ size s + total pages_given requests (request_answers s requests)
+    ≡ size s + total pages_handed_out requests (request_answers s requests)
 unfolding request_answers final_state total
 counted s [] = refl
 counted s (request ∷ requests) =
@@ -198,19 +198,19 @@ module _ (s : PlainSet) (held : List ℕ) (kept : ℕ → Bool) (h : AreHeld s h
 
   held_take : (o : Option ℕ) → MatchOption o ((k : ℕ) → k < s.capacity → s.has k ≡ true)
       (IsLeastFree s) → AreHeldAfter held (held_after held Take (page_or_full o))
-      (gives Take (page_or_full o)) (λ _. false)
+      (hands_out Take (page_or_full o)) (λ _. false)
   held_take None all = same_held held (λ _. false) (λ _. refl) h.distinct
   held_take (Some q) least = held_page q least.is_free
 
   held_chosen : (p : ℕ) (b : Bool) → b ≡ is_free_page s p →
       AreHeldAfter held (held_after held (TakeAt p) (cond b (answer.Page p) answer.NotFree))
-      (gives (TakeAt p) (cond b (answer.Page p) answer.NotFree)) (λ _. false)
+      (hands_out (TakeAt p) (cond b (answer.Page p) answer.NotFree)) (λ _. false)
   held_chosen p false is = same_held held (λ _. false) (λ _. refl) h.distinct
   held_chosen p true is = held_page p (free_page s p (sym is)).1
 
   held_run : (n : ℕ) (o : Option ℕ) → IsFirstRun (complement s) 0 n o →
       AreHeldAfter held (held_after held (TakeRun n) (run_or_none o))
-      (gives (TakeRun n) (run_or_none o)) (λ _. false)
+      (hands_out (TakeRun n) (run_or_none o)) (λ _. false)
   held_run n None none = same_held held (λ _. false) (λ _. refl) h.distinct
   held_run n (Some f) first = record {
     distinct = with_distinct held f n h.distinct
@@ -220,7 +220,7 @@ module _ (s : PlainSet) (held : List ℕ) (kept : ℕ → Bool) (h : AreHeld s h
 
   held_back : (request : Request) (b : Bool) →
       AreHeldAfter held (held_after held request (cond b answer.Given answer.NotTaken))
-      (gives request (cond b answer.Given answer.NotTaken)) (λ page. asks_back request page && b)
+      (hands_out request (cond b answer.Given answer.NotTaken)) (λ page. asks_back request page && b)
   held_back request false = same_held held (λ page. asks_back request page && false)
       (λ page. and-false (asks_back request page)) h.distinct
   held_back request true = record {
@@ -231,7 +231,7 @@ module _ (s : PlainSet) (held : List ℕ) (kept : ℕ → Bool) (h : AreHeld s h
 
   held_next : (request : Request) →
       AreHeldAfter held (held_after held request (answer_to s request))
-      (gives request (answer_to s request)) (gives_back s request)
+      (hands_out request (answer_to s request)) (gives_back s request)
   held_next Take = held_take (least_free s) (least_free-is s)
   held_next (TakeAt p) = held_chosen p (is_free_page s p) refl
   held_next (GiveBack p) = held_back (GiveBack p) (is_taken s p)
@@ -245,7 +245,7 @@ module _ (s : PlainSet) (held : List ℕ) (kept : ℕ → Bool) (h : AreHeld s h
   held_on request =
       let one = step s request in
       let next = held_next request in
-      let out = gives request (answer_to s request) in
+      let out = hands_out request (answer_to s request) in
       let back = gives_back s request in record {
         distinct = next.distinct;
         apart = λ page e. still_apart (out page) (back page) (list_any (◌==◌ page) held) (kept page)
@@ -257,35 +257,35 @@ module _ (s : PlainSet) (held : List ℕ) (kept : ℕ → Bool) (h : AreHeld s h
             ∙ ap (λ b. b || (kept page && not (back page))) (sym (next.any page));
       }
 
--- `AreHeld` still holds after a run
-held_on_run : (s : PlainSet) (held : List ℕ) (kept : ℕ → Bool) (requests : List Request) →
+-- `AreHeld` still holds after a list of requests
+held_on_list : (s : PlainSet) (held : List ℕ) (kept : ℕ → Bool) (requests : List Request) →
     AreHeld s held kept →
-    AreHeld (final_state s requests) (held_after_run held s requests)
+    AreHeld (final_state s requests) (held_after_list held s requests)
     (λ page. kept page && not (came_back s requests page))
-unfolding held_after_run came_back final_state
-held_on_run s held kept [] h = record {
+unfolding held_after_list came_back final_state
+held_on_list s held kept [] h = record {
   distinct = h.distinct;
   apart = λ page e. ap (λ b. b && true) (h.apart page e);
   taken = λ page. h.taken page
       ∙ ap (λ b. list_any (◌==◌ page) held || b) (sym (and-true (kept page)));
 }
-held_on_run s held kept (request ∷ requests) h =
+held_on_list s held kept (request ∷ requests) h =
     let next = state_after s request in
-    let later = held_on_run next (held_after held request (answer_to s request))
+    let later = held_on_list next (held_after held request (answer_to s request))
     (λ page. kept page && not (gives_back s request page)) requests (held_on s held kept h request) in
     let twice = λ (page : ℕ). kept_twice (kept page) (gives_back s request page)
     (came_back next requests page) in record {
       distinct = later.distinct;
       apart = λ page e. sym (twice page) ∙ later.apart page e;
       taken = λ page. later.taken page
-          ∙ ap (λ b. list_any (◌==◌ page) (held_after_run held s (request ∷ requests)) || b) (twice page);
+          ∙ ap (λ b. list_any (◌==◌ page) (held_after_list held s (request ∷ requests)) || b) (twice page);
     }
 
--- the pages outstanding after a run
+-- the pages outstanding after a list of requests
 pub are_outstanding : (s : PlainSet) (requests : List Request) →
     AreOutstanding s requests (outstanding s requests)
 are_outstanding s requests =
-    let h = held_on_run s [] s.has requests (record {
+    let h = held_on_list s [] s.has requests (record {
       distinct = nothing_distinct;
       apart = λ page e. absurd (cc);
       taken = λ page. refl;

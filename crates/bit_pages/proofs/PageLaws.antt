@@ -1,11 +1,11 @@
--- What follows from the page machine for every run.
+-- What follows from the page machine for every request and for every list of requests.
 use Rattle.std.proofs.Common.{◌≡◌, ℕ, zero, suc, ◌<◌, ◌⊎◌, Bool, true, false, cond, Option, Some, None, List, [], ◌∷◌, inl, inr, refl, sym, ap, ◌∙◌, arith}
 use Rattle.std.proofs.lemmas.Bool.{true≢false}
 use Rattle.std.specs.Prelude.{◌↔◌, MatchOption}
 use Rattle.bittle.specs.PlainSet.{PlainSet, complement, size}
 use Rattle.bittle.proofs.CallerSets.{size_full, size_whole}
 use Rattle.bittle_ext.specs.Runs.{IsFirstRun, IsRun}
-use Rattle.bit_pages.specs.PageLaws.{IsFree, IsGiven, IsGivenBack, IsLeastFree, gives}
+use Rattle.bit_pages.specs.PageLaws.{IsFree, IsHandedOut, IsGivenBack, IsLeastFree, hands_out}
 use Rattle.bit_pages.specs.Pages.{is_taken, is_free_page, is_run_taken, least_free, first_free_run, page_or_full, run_or_none, answer_to, state_after, request_answers}
 use Rattle.bit_pages.specs.declared.Answer.TheVariants as answer
 use Rattle.bit_pages.specs.declared.Request.{Request}
@@ -318,24 +318,24 @@ given_is_taken s (GiveBackRun f n) =
         let many : e.1 ≡ n = cc in
         ap (λ b. cond b answer.Given answer.NotTaken) (taken_run s f n (rw many at rw first at e.3))
 
--- what `IsGiven` says of the first request of a run
+-- what `IsHandedOut` says of the first request of a list
 gives_first : (s : PlainSet) (request : Request) (requests : List Request) (page : ℕ) →
-    IsGiven s (request ∷ requests) zero page →
-    gives request (answer_to s request) page ≡ true
+    IsHandedOut s (request ∷ requests) zero page →
+    hands_out request (answer_to s request) page ≡ true
 unfolding request_answers
 gives_first s request requests page out =
     let asked : request ≡ out.request = some_is out.asked in
     let answered : answer_to s request ≡ out.answer = some_is out.answered in
-    ap (λ r. gives r (answer_to s request) page) asked
-    ∙ ap (λ a. gives out.request a page) answered ∙ out.has
+    ap (λ r. hands_out r (answer_to s request) page) asked
+    ∙ ap (λ a. hands_out out.request a page) answered ∙ out.has
   where
     some_is : {X : Type 0} {x y : X} → Some x ≡ Some y → x ≡ y
     some_is e = cc
 
--- what `IsGiven` says of a later request of a run
+-- what `IsHandedOut` says of a later request of a list
 gives_later : (s : PlainSet) (request : Request) (requests : List Request) (page j : ℕ) →
-    IsGiven s (request ∷ requests) (suc j) page →
-    IsGiven (state_after s request) requests j page
+    IsHandedOut s (request ∷ requests) (suc j) page →
+    IsHandedOut (state_after s request) requests j page
 unfolding request_answers
 gives_later s request requests page j out = record {
   request = out.request;
@@ -356,9 +356,9 @@ back_later s request requests page k back = record {
   has = back.has;
 }
 
--- a taken page that is given later was given back before
+-- a taken page that is handed out later was given back before
 given_before : (s : PlainSet) (requests : List Request) (page j : ℕ) → IsTaken s page →
-    IsGiven s requests j page → (k : ℕ) × (k < j) × IsGivenBack s requests k page
+    IsHandedOut s requests j page → (k : ℕ) × (k < j) × IsGivenBack s requests k page
 unfolding request_answers
 given_before s [] page j t out = let none = out.asked in absurd (cc)
 given_before s (request ∷ requests) page zero t out =
@@ -381,9 +381,9 @@ given_before s (request ∷ requests) page (suc j) t out =
       )
     ]
 
--- between two answers that give the same page, that page was given back
+-- between two answers that hand out the same page, that page was given back
 pub given_between : (s : PlainSet) (requests : List Request) (page i j : ℕ) → i < j →
-    IsGiven s requests i page → IsGiven s requests j page →
+    IsHandedOut s requests i page → IsHandedOut s requests j page →
     (k : ℕ) × (i < k) × (k < j) × IsGivenBack s requests k page
 given_between s requests page i zero h a b = absurd (omega arith)
 given_between s [] page i (suc j) h a b = let none = b.asked in absurd (cc)
@@ -405,9 +405,9 @@ given_between s (request ∷ requests) page (suc i) (suc j) h a b =
       back_later s request requests page later.0 later.3,
     )
 
--- a page that is taken before a run is given in it only after it was given back
+-- a page that is taken before a list of requests is handed out in it only after it was given back
 pub given_first : (s : PlainSet) (requests : List Request) (page j : ℕ) → page < s.capacity →
-    s.has page ≡ true → IsGiven s requests j page →
+    s.has page ≡ true → IsHandedOut s requests j page →
     (k : ℕ) × (k < j) × IsGivenBack s requests k page
 given_first s requests page j h t out = given_before s requests page j
     (record { within = h; is_member = t }) out

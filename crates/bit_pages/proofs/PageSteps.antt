@@ -1,4 +1,4 @@
--- What one request does: which pages it gives, which come back, and how many.
+-- What one request does: which pages it hands out, which come back, and how many.
 use Rattle.std.proofs.Common.{◌≡◌, ℕ, ◌+◌, ◌<◌, ◌≤◌, ◌⊎◌, Bool, true, false, not, cond, ◌&&◌, ◌||◌, ◌==◌, nat_le, nat_lt, Option, Some, None, inl, inr, refl, sym, ap, ◌∙◌, arith}
 use Rattle.std.proofs.Math.Bool.{and-true, and-false}
 use Rattle.std.proofs.lemmas.Bool.{cases_Bool, eqb-true, leb-true, ltb-true, and_parts, or_left, or_right, true≢false}
@@ -7,7 +7,7 @@ use Rattle.bittle.specs.PlainSet.{PlainSet, complement, has_changed, is_in_span,
 use Rattle.bittle.proofs.CallerChanges.{size_added, size_removed}
 use Rattle.bittle_ext.specs.Runs.{IsFirstRun}
 use Rattle.bittle_ext.proofs.RunCounts.{run_is_unset, size_with_run}
-use Rattle.bit_pages.specs.PageLaws.{IsLeastFree, asks_back, gives, gives_back, pages_back, pages_given}
+use Rattle.bit_pages.specs.PageLaws.{IsLeastFree, asks_back, hands_out, gives_back, pages_back, pages_handed_out}
 use Rattle.bit_pages.specs.Pages.{is_taken, is_free_page, is_run_taken, least_free, first_free_run, page_or_full, run_or_none, with_found, with_page, with_run, without_page, answer_to, state_after}
 use Rattle.bit_pages.specs.declared.Answer.TheVariants as answer
 use Rattle.bit_pages.specs.declared.Request.{Request}
@@ -48,8 +48,8 @@ free_or false c = refl
 -- the step of a request for a page
 page_step : (s : PlainSet) (o : Option ℕ) →
     MatchOption o ((k : ℕ) → k < s.capacity → s.has k ≡ true) (IsLeastFree s) →
-    IsStep s (with_found s o) (gives Take (page_or_full o)) (λ _. false)
-    (pages_given Take (page_or_full o)) (pages_back Take (page_or_full o))
+    IsStep s (with_found s o) (hands_out Take (page_or_full o)) (λ _. false)
+    (pages_handed_out Take (page_or_full o)) (pages_back Take (page_or_full o))
 page_step s None all = nothing s (λ _. false) (λ _. refl)
 page_step s (Some q) least = record {
   capacity = refl;
@@ -62,8 +62,8 @@ page_step s (Some q) least = record {
 -- the step of a request for a chosen page
 chosen_step : (s : PlainSet) (p : ℕ) (b : Bool) → b ≡ is_free_page s p →
     IsStep s (cond b (with_page s p) s)
-    (gives (TakeAt p) (cond b (answer.Page p) answer.NotFree)) (λ _. false)
-    (pages_given (TakeAt p) (cond b (answer.Page p) answer.NotFree))
+    (hands_out (TakeAt p) (cond b (answer.Page p) answer.NotFree)) (λ _. false)
+    (pages_handed_out (TakeAt p) (cond b (answer.Page p) answer.NotFree))
     (pages_back (TakeAt p) (cond b (answer.Page p) answer.NotFree))
 chosen_step s p false is = nothing s (λ _. false) (λ _. refl)
 chosen_step s p true is = let free = free_page s p (sym is) in record {
@@ -76,9 +76,9 @@ chosen_step s p true is = let free = free_page s p (sym is) in record {
 
 -- the step of a request to give a page back
 back_step : (s : PlainSet) (p : ℕ) (b : Bool) → b ≡ is_taken s p →
-    IsStep s (cond b (without_page s p) s) (gives (GiveBack p) (cond b answer.Given
+    IsStep s (cond b (without_page s p) s) (hands_out (GiveBack p) (cond b answer.Given
     answer.NotTaken)) (λ page. (page == p) && b)
-    (pages_given (GiveBack p) (cond b answer.Given answer.NotTaken))
+    (pages_handed_out (GiveBack p) (cond b answer.Given answer.NotTaken))
     (pages_back (GiveBack p) (cond b answer.Given answer.NotTaken))
 back_step s p false is = nothing s (λ page. (page == p) && false) (λ page. and-false (page == p))
 back_step s p true is = record {
@@ -91,8 +91,8 @@ back_step s p true is = record {
 
 -- the step of a request for a run of pages
 run_step : (s : PlainSet) (n : ℕ) (o : Option ℕ) → IsFirstRun (complement s) 0 n o →
-    IsStep s (with_run s n o) (gives (TakeRun n) (run_or_none o)) (λ _. false)
-    (pages_given (TakeRun n) (run_or_none o)) (pages_back (TakeRun n) (run_or_none o))
+    IsStep s (with_run s n o) (hands_out (TakeRun n) (run_or_none o)) (λ _. false)
+    (pages_handed_out (TakeRun n) (run_or_none o)) (pages_back (TakeRun n) (run_or_none o))
 unfolding has_changed
 run_step s n None none = nothing s (λ _. false) (λ _. refl)
 run_step s n (Some f) first = record {
@@ -110,9 +110,9 @@ run_step s n (Some f) first = record {
 
 -- the step of a request to give a run of pages back
 back_run_step : (s : PlainSet) (f n : ℕ) (b : Bool) → b ≡ is_run_taken s f n →
-    IsStep s (cond b (without_span s f (f + n)) s) (gives (GiveBackRun f n) (cond b answer.Given
+    IsStep s (cond b (without_span s f (f + n)) s) (hands_out (GiveBackRun f n) (cond b answer.Given
     answer.NotTaken)) (λ page. is_in_span f (f + n) page && b)
-    (pages_given (GiveBackRun f n) (cond b answer.Given answer.NotTaken))
+    (pages_handed_out (GiveBackRun f n) (cond b answer.Given answer.NotTaken))
     (pages_back (GiveBackRun f n) (cond b answer.Given answer.NotTaken))
 unfolding has_changed
 back_run_step s f n false is = nothing s (λ page. is_in_span f (f + n) page && false)
@@ -127,8 +127,8 @@ back_run_step s f n true is = record {
 
 -- each request is a step
 pub step : (s : PlainSet) (request : Request) →
-    IsStep s (state_after s request) (gives request (answer_to s request)) (gives_back s request)
-    (pages_given request (answer_to s request)) (pages_back request (answer_to s request))
+    IsStep s (state_after s request) (hands_out request (answer_to s request)) (gives_back s request)
+    (pages_handed_out request (answer_to s request)) (pages_back request (answer_to s request))
 step s Take = page_step s (least_free s) (least_free-is s)
 step s (TakeAt p) = chosen_step s p (is_free_page s p) refl
 step s (GiveBack p) = back_step s p (is_taken s p) refl
@@ -153,13 +153,13 @@ pub record IsTaken (s : PlainSet) (page : ℕ) : Type 0 where
   pub within : page < s.capacity
   pub is_member : s.has page ≡ true
 
--- a page that is given is taken afterwards
+-- a page that is handed out is taken afterwards
 pub page_is_taken : (s : PlainSet) (request : Request) (page : ℕ) →
-    gives request (answer_to s request) page ≡ true → IsTaken (state_after s request) page
+    hands_out request (answer_to s request) page ≡ true → IsTaken (state_after s request) page
 page_is_taken s request page e =
     let one = step s request in record {
       within = omega (arith, one.capacity, one.within page e);
-      is_member = one.has page ∙ or_left (gives request (answer_to s request) page)
+      is_member = one.has page ∙ or_left (hands_out request (answer_to s request) page)
           (not (gives_back s request page) && s.has page) e;
     }
 
@@ -172,14 +172,14 @@ stays_taken s request page t = elim (cases_Bool (gives_back s request page)) [
   | inr none ↦ let one = step s request in inl (record {
     within = omega (arith, one.capacity, t.within);
     is_member = one.has page
-        ∙ or_right (gives request (answer_to s request) page)
+        ∙ or_right (hands_out request (answer_to s request) page)
         (not (gives_back s request page) && s.has page)
         (ap (λ b. not b && s.has page) none ∙ t.is_member);
   })
 ]
 
--- a page that is given was not taken before
+-- a page that is handed out was not taken before
 pub given_was_free : (s : PlainSet) (request : Request) (page : ℕ) → IsTaken s page →
-    gives request (answer_to s request) page ≡ true → ⊥
+    hands_out request (answer_to s request) page ≡ true → ⊥
 given_was_free s request page t e =
     true≢false (sym t.is_member ∙ (step s request).was_free page e)

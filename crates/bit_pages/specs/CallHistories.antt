@@ -20,8 +20,8 @@ IsHistory before (call ∷ calls) after =
 
 -- the calls of a history give the machine's answers to the list of their requests, and leave the
 -- machine's last state
-abbrev pub HistoriesAreRuns : Type 0
-HistoriesAreRuns =
+abbrev pub CallsAnswerAsLists : Type 0
+CallsAnswerAsLists =
     (before after : PlainSet) (calls : List (Request × Answer)) → IsHistory before calls after
     → (map (λ call. call.1) calls ≡ request_answers before (map (λ call. call.0) calls))
     × (after ≡ final_state before (map (λ call. call.0) calls))

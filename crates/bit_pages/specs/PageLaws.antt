@@ -81,14 +81,14 @@ length_of (TakeRun length) = length
 length_of (GiveBackRun first length) = length
 
 -- how many pages an answer to a request hands out
-abbrev pub pages_given : Request → Answer → ℕ
-pages_given request (Page page) = 1
-pages_given request Full = 0
-pages_given request NotFree = 0
-pages_given request Given = 0
-pages_given request NotTaken = 0
-pages_given request (Run first) = length_of request
-pages_given request NoRun = 0
+abbrev pub pages_handed_out : Request → Answer → ℕ
+pages_handed_out request (Page page) = 1
+pages_handed_out request Full = 0
+pages_handed_out request NotFree = 0
+pages_handed_out request Given = 0
+pages_handed_out request NotTaken = 0
+pages_handed_out request (Run first) = length_of request
+pages_handed_out request NoRun = 0
 
 -- how many pages a request with this answer gave back
 abbrev pub pages_back : Request → Answer → ℕ
@@ -113,17 +113,17 @@ abbrev pub PagesAreCounted : Type 0
 PagesAreCounted =
     (s : PlainSet) (requests : List Request)
     → size (final_state s requests) + total pages_back requests (request_answers s requests)
-    ≡ size s + total pages_given requests (request_answers s requests)
+    ≡ size s + total pages_handed_out requests (request_answers s requests)
 
 -- whether an answer to a request hands out the page `page`
-abbrev pub gives : Request → Answer → ℕ → Bool
-gives request (Page p) page = page == p
-gives request Full page = false
-gives request NotFree page = false
-gives request Given page = false
-gives request NotTaken page = false
-gives request (Run first) page = is_in_span first (first + length_of request) page
-gives request NoRun page = false
+abbrev pub hands_out : Request → Answer → ℕ → Bool
+hands_out request (Page p) page = page == p
+hands_out request Full page = false
+hands_out request NotFree page = false
+hands_out request Given page = false
+hands_out request NotTaken page = false
+hands_out request (Run first) page = is_in_span first (first + length_of request) page
+hands_out request NoRun page = false
 
 -- whether a request asks to free the page `page`
 abbrev pub asks_back : Request → ℕ → Bool
@@ -134,12 +134,12 @@ asks_back (TakeRun length) page = false
 asks_back (GiveBackRun first length) page = is_in_span first (first + length) page
 
 -- answer i to a list of requests hands out the page, alone or in a run of pages
-pub record IsGiven (s : PlainSet) (requests : List Request) (i page : ℕ) : Type 0 where
+pub record IsHandedOut (s : PlainSet) (requests : List Request) (i page : ℕ) : Type 0 where
   pub request : Request
   pub answer : Answer
   pub asked : slice_get requests i ≡ Some request
   pub answered : slice_get (request_answers s requests) i ≡ Some answer
-  pub has : gives request answer page ≡ true
+  pub has : hands_out request answer page ≡ true
 
 -- request k of a list gave the page back, alone or in a run of pages
 pub record IsGivenBack (s : PlainSet) (requests : List Request) (k page : ℕ) : Type 0 where
@@ -150,20 +150,20 @@ pub record IsGivenBack (s : PlainSet) (requests : List Request) (k page : ℕ) :
 
 -- a list of requests hands out a page that was taken before the list only after the list gave that
 -- page back
-abbrev pub TakenPagesAreGivenFirst : Type 0
-TakenPagesAreGivenFirst =
+abbrev pub TakenPagesComeBackFirst : Type 0
+TakenPagesComeBackFirst =
     (s : PlainSet) (requests : List Request) (page j : ℕ)
     → page < s.capacity → s.has page ≡ true
-    → IsGiven s requests j page
+    → IsHandedOut s requests j page
     → (k : ℕ) × (k < j) × IsGivenBack s requests k page
 
 -- between two answers that hand out the same page, that page was given back
-abbrev pub PagesAreGivenBetween : Type 0
-PagesAreGivenBetween =
+abbrev pub PagesComeBackBetween : Type 0
+PagesComeBackBetween =
     (s : PlainSet) (requests : List Request) (page i j : ℕ)
     → i < j
-    → IsGiven s requests i page
-    → IsGiven s requests j page
+    → IsHandedOut s requests i page
+    → IsHandedOut s requests j page
     → (k : ℕ) × (i < k) × (k < j) × IsGivenBack s requests k page
 
 -- the list of the held pages, and after them the n pages from page `first` on
@@ -183,15 +183,15 @@ held_after held request (Run first) = held_with held first (length_of request)
 held_after held request NoRun = held
 
 -- the pages that are held after a list of requests, if `held` were held before it
-unfoldable pub held_after_run : List ℕ → PlainSet → List Request → List ℕ
-held_after_run held s [] = held
-held_after_run held s (request ∷ requests) =
-    held_after_run (held_after held request (answer_to s request)) (state_after s request) requests
+unfoldable pub held_after_list : List ℕ → PlainSet → List Request → List ℕ
+held_after_list held s [] = held
+held_after_list held s (request ∷ requests) =
+    held_after_list (held_after held request (answer_to s request)) (state_after s request) requests
 
 -- the pages outstanding: those that a list of requests handed out, and that were not given back in
 -- it since
 abbrev pub outstanding : PlainSet → List Request → List ℕ
-outstanding = held_after_run []
+outstanding = held_after_list []
 
 -- whether a request in the state s frees the page `page`, which was taken
 abbrev pub gives_back : PlainSet → Request → ℕ → Bool

@@ -5,8 +5,8 @@
 
 ghost use Rattle.bit_pages.specs.PageLaws.{PagesAreFree, FullExactlyIfAllAreTaken, NotFreeExactlyIfNotFree};
 ghost use Rattle.bit_pages.specs.PageLaws.{RunsAreFirst, NoRunExactlyIfNoneIsFree, GivenExactlyIfTaken};
-ghost use Rattle.bit_pages.specs.PageLaws.{PagesAreGivenBetween, TakenPagesAreGivenFirst};
-ghost use Rattle.bit_pages.specs.CallHistories.{HistoriesAreRuns};
+ghost use Rattle.bit_pages.specs.PageLaws.{PagesComeBackBetween, TakenPagesComeBackFirst};
+ghost use Rattle.bit_pages.specs.CallHistories.{CallsAnswerAsLists};
 ghost use Rattle.bit_pages.specs.PageLaws.{AnswersAreOfTheirStates, PagesAreCounted, PagesAreOutstanding};
 
 /// States that a page is answered exactly if any page is asked for and this page is the least free
@@ -56,14 +56,14 @@ pub fn pages_are_counted()
 
 /// States that if two answers hand out the same page, that page was given back between them. Each
 /// time, the page may be alone or in a run of pages.
-pub fn pages_are_given_between()
-    ensures { PagesAreGivenBetween }
+pub fn pages_come_back_between()
+    ensures { PagesComeBackBetween }
 {}
 
 /// States that a list of requests hands out a page that was taken before the list only after the
 /// list gave that page back.
-pub fn taken_pages_are_given_first()
-    ensures { TakenPagesAreGivenFirst }
+pub fn taken_pages_come_back_first()
+    ensures { TakenPagesComeBackFirst }
 {}
 
 /// States what holds of the pages that a list of requests hands out and that are not given back in
@@ -78,6 +78,6 @@ pub fn pages_are_outstanding()
 /// sequence answer as the machine does on the list of their requests. This follows from what the clauses of each
 /// call say of its answer and of the pages. So each law of lists of requests holds for such calls
 /// too.
-pub fn histories_are_runs()
-    ensures { HistoriesAreRuns }
+pub fn calls_answer_as_lists()
+    ensures { CallsAnswerAsLists }
 {}

@@ -4,7 +4,7 @@
 ghost use Rattle.std.specs.Prelude.{◌≡◌, ◌≢◌, ◌+◌, ◌-◌, ◌<◌, IfSome, IsTrue, MatchOption, true, length};
 ghost use Rattle.std.specs.Prelude.{if◌then◌else◌, map, slice_set, [], ◌∷◌, List};
 ghost use Rattle.bit_pages.specs.CallHistories.{IsHistory};
-ghost use Rattle.bit_pages.specs.PageLaws.{pages_back, pages_given, total};
+ghost use Rattle.bit_pages.specs.PageLaws.{pages_back, pages_handed_out, total};
 ghost use Rattle.bit_pages.specs.Pages.{is_taken, least_free, page_or_full, run_or_none};
 ghost use Rattle.bittle.specs.BitPatterns.{bit_set};
 ghost use Rattle.bittle.specs.Values.{set_in};
@@ -229,7 +229,7 @@ pub fn serve_and_count<B: BitsOwned>(
     ensures { size (set_in B.Shape B.Order.Endian pages.new.map)
         + total pages_back requests.now answers.new
         ≡ size (set_in B.Shape B.Order.Endian pages.old.map)
-        + total pages_given requests.now answers.new }
+        + total pages_handed_out requests.now answers.new }
 {
     page_laws::pages_are_counted();
     pages.serve(requests, answers);
@@ -281,9 +281,9 @@ pub fn calls_are_counted()
     ensures { (before after : PlainSet) (calls : List (Request × Answer))
         → IsHistory before calls after
         → size after + total pages_back (map (λ call. call.0) calls) (map (λ call. call.1) calls)
-        ≡ size before + total pages_given (map (λ call. call.0) calls)
+        ≡ size before + total pages_handed_out (map (λ call. call.0) calls)
         (map (λ call. call.1) calls) }
 {
-    page_laws::histories_are_runs();
+    page_laws::calls_answer_as_lists();
     page_laws::pages_are_counted();
 }

@@ -7,14 +7,14 @@ use Rattle.bit_pages.specs.Pages.{answer_to, request_answers, final_state}
 use Rattle.bit_pages.specs.declared.Request.{Request}
 use Rattle.bit_pages.specs.declared.Answer.{Answer}
 
-pub history_is_run : (before after : PlainSet) (calls : List (Request × Answer)) →
+pub history_is_list : (before after : PlainSet) (calls : List (Request × Answer)) →
     IsHistory before calls after →
     (map (λ call. call.1) calls ≡ request_answers before (map (λ call. call.0) calls))
     × (after ≡ final_state before (map (λ call. call.0) calls))
 unfolding request_answers final_state
-history_is_run before after [] is = (refl, is)
-history_is_run before after (call ∷ calls) is =
-    let later = history_is_run is.0 after calls is.2 in
+history_is_list before after [] is = (refl, is)
+history_is_list before after (call ∷ calls) is =
+    let later = history_is_list is.0 after calls is.2 in
     let requests : List Request = map (λ call. call.0) calls in (
       ap (λ a. a ∷ map (λ call. call.1) calls) is.1.answered
           ∙ ap (λ rest. answer_to before call.0 ∷ rest) (later.0

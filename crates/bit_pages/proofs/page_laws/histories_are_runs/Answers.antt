@@ -1,5 +1,0 @@
-use Rattle.bit_pages.proofs.CallRuns.{history_is_run}
-use Rattle.bit_pages.proofs.page_laws.histories_are_runs.Goals as goal
-
-pub returns : goal.returns
-returns c = history_is_run
