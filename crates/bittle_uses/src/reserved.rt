@@ -3,7 +3,7 @@
 
 ghost use Rattle.std.specs.Prelude.{◌≡◌, ◌+◌, ◌<◌, ◌≤◌, true, false, IfSome, IsTrue};
 ghost use Rattle.bittle.specs.BitPatterns.{bit_set};
-ghost use Rattle.bittle.specs.PlainSet.{contains, without_index};
+ghost use Rattle.bittle.specs.PlainSet.{contains, empty_set, with_span, without_index};
 ghost use Rattle.bittle.specs.Rows.{row_set};
 ghost use Rattle.bittle_ext.specs.ReservedSpans.{has_span};
 
@@ -20,7 +20,10 @@ pub struct Leases {
 impl Leases {
     /// Returns leases in which only the reserved addresses count as leased.
     #[tactic(auto, using(bittle_ext::proofs::CallerSpans::has_span_after_set_span, bittle_ext::proofs::CallerSpans::has_span_after_other_span))]
-    pub fn new() -> Leases {
+    pub fn new() -> Leases
+        ensures { row_set 4 64 (bit_set 64) result.leased
+            ≡ with_span (with_span (empty_set 256) 0 10) 250 256 }
+    {
         let mut leased = <[u64; 4]>::zeros();
         leased.set_range(0, 10);
         leased.set_range(250, 256);

@@ -1,5 +1,7 @@
 //! A set over a `Vec` of words. During each call, a slice of these words is the set.
 
+ghost use Rattle.std.specs.Prelude.{◌/◌, ◌<◌, IsTrue, length};
+
 use bittle::Bits;
 use bittle_ext::prelude::*;
 use std::alloc::{AllocError, Global};
@@ -41,7 +43,9 @@ impl Growing {
 
     /// Returns whether a number is a member. A number past the words is no member: it does not
     /// wrap.
-    pub(crate) fn contains(&self, number: u32) -> bool {
+    pub(crate) fn contains(&self, number: u32) -> bool
+        ensures { IsTrue result → number / 64 < length self.now.words.items }
+    {
         let set = self.words.as_slice();
         (number as usize) / 64 < set.len() && set.test_bit(number)
     }

@@ -1,7 +1,7 @@
 //! A set of numbers that grows. Its words are in a `Vec` of the program, which allocates memory.
 //!
 //! What is proved: no call reads past the words, none panics, and each ends. A number past the
-//! words is no member, and only `insert` allocates memory.
+//! words is no member. No contract says which of the other numbers are members.
 #![tactic(auto)]
 
 mod growing;
