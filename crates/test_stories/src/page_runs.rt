@@ -27,7 +27,7 @@ fn chosen_pages(rt: HostRuntime) {
     same!(rt; (pages.take_at(5), pages.take_at(5), pages.take_at(0)), (true, false, false));
     same!(rt; (pages.take_at(8), pages.take_at(13), pages.taken()), (false, false, 2));
     same!(rt; (pages.take(), pages.give_back(5), pages.take_at(5)), (Some(1), Ok(()), true));
-    same!(rt; pages.into_map(), 0b0010_0011);
+    same!(rt; (*pages.map(), pages.into_map()), (0b0010_0011, 0b0010_0011));
     let mut none = Pages::<[u8; 0]>::new();
     same!(rt; none.take_at(0), false);
 }
