@@ -1,10 +1,12 @@
 -- What follows from the role machine.
-use Rattle.std.proofs.Common.{◌≡◌, ℕ, zero, suc, ◌+◌, ◌<◌, ◌≤◌, ◌⊎◌, Bool, true, false, cond, ◌&&◌, ◌||◌, ◌==◌, nat_lt, Option, Some, None, List, [], ◌∷◌, inl, inr, refl, sym, ap, ◌∙◌, arith}
+use Rattle.std.proofs.Common.{◌≡◌, ℕ, zero, suc, ◌+◌, ◌<◌, ◌≤◌, ◌↔◌, ◌⊎◌, Bool, true, false, cond, ◌&&◌, ◌||◌, ◌==◌, nat_lt, Option, Some, None, List, [], ◌∷◌, inl, inr, refl, sym, ap, subst, ◌∙◌, arith}
 use Rattle.std.specs.List.{list_any}
-use Rattle.std.proofs.lemmas.Bool.{cases_eq, lt-ltb, ltb-true, eq-eqb, ne_eqb, or_right, and_parts, and_right}
+use Rattle.std.specs.Option.{option_map}
+use Rattle.std.specs.Prelude.{slice_get, take}
+use Rattle.std.proofs.lemmas.Bool.{cases_eq, lt-ltb, ltb-true, eq-eqb, eqb-true, ne_eqb, or_left, or_right, and_from, and_parts, and_right}
 use Rattle.std.proofs.lemmas.Option.{same_Some}
-use Rattle.bit_roles.specs.Roles.{Roles, parent_of, ancestor, Allows, HasLesserParents, may_grant, may_inherit, with_granted, with_parent, answer_to, roles_after, request_answers, final_roles}
-use Rattle.bit_roles.specs.RoleLaws.{grants, GivesParent, GivesNoParentFrom}
+use Rattle.bit_roles.specs.Roles.{Roles, parent_of, ancestor, LeadsTo, Allows, HasLesserParents, may_grant, may_inherit, with_granted, with_parent, answer_to, roles_after, request_answers, final_roles, bare_roles}
+use Rattle.bit_roles.specs.RoleLaws.{grants, IsPossible, GivesParent, GivesNoParentFrom}
 use Rattle.bit_roles.specs.declared.Request.{Request}
 use Rattle.bit_roles.specs.declared.Request.TheVariants.{Grant, Inherit}
 use Rattle.bit_roles.specs.declared.Answer.TheVariants.{Done, Refused}
@@ -218,6 +220,16 @@ other_parents_keep r role parent other apart = by (may_inherit r role parent)
     by true = ap (λ b. cond b (Some parent) (r.parent other)) (ne_eqb other role apart)
     by false = refl
 
+-- a parent that is given to a role grants nothing
+inherit_keeps : (r : Roles) (role parent other more : ℕ) →
+    (roles_after r (Inherit role parent)).granted other more ≡ r.granted other more
+inherit_keeps r role parent other more = by (may_inherit r role parent)
+  where
+    by : (b : Bool) → (cond b (with_parent r role parent) r).granted other more
+        ≡ r.granted other more
+    by true = refl
+    by false = refl
+
 -- a request keeps how many roles and permissions there are
 same_counts : (r : Roles) (request : Request) →
     ((roles_after r request).count ≡ r.count) × ((roles_after r request).permissions ≡ r.permissions)
@@ -318,3 +330,206 @@ last_given r (request ∷ requests) role parent zero given none =
 last_given r (request ∷ requests) role parent (suc i) given none =
     last_given (roles_after r request) requests role parent i given
     (λ j p h later. none (suc j) p (omega (arith, h)) later)
+
+-- a request is answered by Done exactly if it is possible
+pub done_exactly : (r : Roles) (request : Request) →
+    (answer_to r request ≡ Done) ↔ IsPossible r request
+done_exactly r (Grant role permission) = by (may_grant r role permission) refl
+  where
+    by : (b : Bool) → may_grant r role permission ≡ b →
+        (cond b Done Refused ≡ Done) ↔ ((role < r.count) × (permission < r.permissions))
+    by true e = let both = and_parts (nat_lt role r.count) (nat_lt permission r.permissions) e in (
+      λ _. (ltb-true role r.count both.0, ltb-true permission r.permissions both.1),
+      λ _. refl,
+    )
+    by false e = (
+      λ no. absurd (cc),
+      λ is.
+          let may = and_from (nat_lt role r.count) (nat_lt permission r.permissions)
+          (lt-ltb role r.count is.0) (lt-ltb permission r.permissions is.1) in
+          absurd (cc),
+    )
+done_exactly r (Inherit role parent) = by (may_inherit r role parent) refl
+  where
+    by : (b : Bool) → may_inherit r role parent ≡ b →
+        (cond b Done Refused ≡ Done) ↔ ((role < r.count) × (parent < role))
+    by true e = let both = and_parts (nat_lt role r.count) (nat_lt parent role) e in (
+      λ _. (ltb-true role r.count both.0, ltb-true parent role both.1),
+      λ _. refl,
+    )
+    by false e = (
+      λ no. absurd (cc),
+      λ is.
+          let may = and_from (nat_lt role r.count) (nat_lt parent role)
+          (lt-ltb role r.count is.0) (lt-ltb parent role is.1) in
+          absurd (cc),
+    )
+
+-- a request that is refused changes nothing
+pub refused_keeps : (r : Roles) (request : Request) → answer_to r request ≡ Refused →
+    roles_after r request ≡ r
+refused_keeps r (Grant role permission) = by (may_grant r role permission)
+  where
+    by : (b : Bool) → cond b Done Refused ≡ Refused →
+        cond b (with_granted r role permission) r ≡ r
+    by true e = absurd (cc)
+    by false e = refl
+refused_keeps r (Inherit role parent) = by (may_inherit r role parent)
+  where
+    by : (b : Bool) → cond b Done Refused ≡ Refused → cond b (with_parent r role parent) r ≡ r
+    by true e = absurd (cc)
+    by false e = refl
+
+-- requests keep how many roles and permissions there are
+pub same_counts_run : (r : Roles) (requests : List Request) →
+    ((final_roles r requests).count ≡ r.count)
+    × ((final_roles r requests).permissions ≡ r.permissions)
+unfolding final_roles
+same_counts_run r [] = (refl, refl)
+same_counts_run r (request ∷ requests) =
+    let one = same_counts r request in
+    let later = same_counts_run (roles_after r request) requests in
+    (later.0 ∙ one.0, later.1 ∙ one.1)
+
+-- an answer of a list is the answer in the state that the earlier requests leave
+pub answered_at : (r : Roles) (requests : List Request) (i : ℕ) →
+    slice_get (request_answers r requests) i
+    ≡ option_map (answer_to (final_roles r (take i requests))) (slice_get requests i)
+unfolding request_answers final_roles
+answered_at r [] zero = refl
+answered_at r [] (suc i) = refl
+answered_at r (request ∷ requests) zero = refl
+answered_at r (request ∷ requests) (suc i) = answered_at (roles_after r request) requests i
+
+-- a role allows just what it was granted and what its parent allows
+pub allows_by_parent : (r : Roles) (role permission : ℕ) → Allows r role permission
+    ↔ ((r.granted role permission ≡ true)
+    ⊎ ((parent : ℕ) × (r.parent role ≡ Some parent) × Allows r parent permission))
+allows_by_parent r role permission = (
+  λ a. by (r.granted role permission) refl (r.parent role) refl a,
+  λ either. elim either [
+    | inl own ↦ allows_granted r role permission own
+    | inr up ↦ allows_up r role up.0 permission up.1 up.2
+  ],
+)
+  where
+    by : (b : Bool) → r.granted role permission ≡ b → (o : Option ℕ) → r.parent role ≡ o →
+        Allows r role permission → (b ≡ true)
+        ⊎ ((parent : ℕ) × (o ≡ Some parent) × Allows r parent permission)
+    by true own o up a = inl refl
+    by false own None up a = absurd (allows_nothing r role permission up own a)
+    by false own (Some parent) up a =
+        inr (parent, refl, allows_down r role parent permission up own a)
+
+-- roles with no permission and no parent allow nothing
+pub bare_allow_nothing : (count permissions role permission : ℕ) →
+    Allows (bare_roles count permissions) role permission → ⊥
+bare_allow_nothing count permissions role permission =
+    allows_nothing (bare_roles count permissions) role permission refl refl
+
+one_or_both : (a b : Bool) → (a || b) ≡ true → (a ≡ true) ⊎ (b ≡ true)
+one_or_both true b e = inl refl
+one_or_both false b e = inr e
+
+-- what a grant gives: its permission, to its role and to the roles that inherit from it
+pub grant_gives : (r : Roles) (role permission other allowed : ℕ) →
+    answer_to r (Grant role permission) ≡ Done →
+    Allows (roles_after r (Grant role permission)) other allowed
+    ↔ (Allows r other allowed ⊎ ((allowed ≡ permission) × LeadsTo r other role))
+grant_gives r role permission other allowed = by (may_grant r role permission)
+  where
+    chain : (n : ℕ) → ancestor (with_granted r role permission) other n ≡ ancestor r other n
+    chain = same_chain r role permission other
+
+    by : (b : Bool) → cond b Done Refused ≡ Done →
+        Allows (cond b (with_granted r role permission) r) other allowed
+        ↔ (Allows r other allowed ⊎ ((allowed ≡ permission) × LeadsTo r other role))
+    by false e = absurd (cc)
+    by true e = (
+      λ a. elim (one_or_both ((a.1 == role) && (allowed == permission)) (r.granted a.1 allowed)
+          a.3) [
+            | inl both ↦
+                let same = and_parts (a.1 == role) (allowed == permission) both in
+                inr (
+                  eqb-true allowed permission same.1,
+                  (a.0, sym (chain a.0) ∙ a.2 ∙ ap Some (eqb-true a.1 role same.0)),
+                )
+            | inr old ↦ inl (a.0, a.1, sym (chain a.0) ∙ a.2, old)
+          ],
+      λ either. elim either [
+        | inl a ↦ (
+          a.0,
+          a.1,
+          chain a.0 ∙ a.2,
+          or_right ((a.1 == role) && (allowed == permission)) (r.granted a.1 allowed) a.3,
+        )
+        | inr new ↦ (
+          new.1.0,
+          role,
+          chain new.1.0 ∙ new.1.1,
+          or_left ((role == role) && (allowed == permission)) (r.granted role allowed)
+              (and_from (role == role) (allowed == permission) (eq-eqb role role refl)
+              (eq-eqb allowed permission new.0)),
+        )
+      ],
+    )
+
+-- a new parent of a role changes no chain that does not come to the role
+chain_past : (r : Roles) (role parent other n : ℕ) → (LeadsTo r other role → ⊥) →
+    ancestor (with_parent r role parent) other n ≡ ancestor r other n
+unfolding ancestor
+chain_past r role parent other zero apart = refl
+chain_past r role parent other (suc n) apart =
+    ap (parent_of (with_parent r role parent)) (chain_past r role parent other n apart)
+    ∙ by (ancestor r other n) refl
+  where
+    by : (o : Option ℕ) → ancestor r other n ≡ o →
+        parent_of (with_parent r role parent) o ≡ parent_of r o
+    by None is = refl
+    by (Some k) is = elim (cases_eq k role) [
+      | inl same ↦ absurd (apart (n, is ∙ ap Some same))
+      | inr differs ↦ ap (λ b. cond b (Some parent) (r.parent k)) (ne_eqb k role differs)
+    ]
+
+-- a new parent of a role changes nothing for a role whose chain does not come to the role
+pub others_allow_same : (r : Roles) (role parent other allowed : ℕ) →
+    (LeadsTo r other role → ⊥) →
+    Allows (roles_after r (Inherit role parent)) other allowed ↔ Allows r other allowed
+others_allow_same r role parent other allowed apart = by (may_inherit r role parent)
+  where
+    chain : (n : ℕ) → ancestor (with_parent r role parent) other n ≡ ancestor r other n
+    chain n = chain_past r role parent other n apart
+
+    by : (b : Bool) →
+        Allows (cond b (with_parent r role parent) r) other allowed ↔ Allows r other allowed
+    by true = (
+      λ a. (a.0, a.1, sym (chain a.0) ∙ a.2, a.3),
+      λ a. (a.0, a.1, chain a.0 ∙ a.2, a.3),
+    )
+    by false = (λ a. a, λ a. a)
+
+-- a role that was given a parent allows what it was granted and what the parent allowed
+pub inherit_gives : (r : Roles) (role parent allowed : ℕ) → HasLesserParents r →
+    answer_to r (Inherit role parent) ≡ Done →
+    Allows (roles_after r (Inherit role parent)) role allowed
+    ↔ ((r.granted role allowed ≡ true) ⊎ Allows r parent allowed)
+inherit_gives r role parent allowed lesser done =
+    let after : Roles = roles_after r (Inherit role parent) in
+    let below : parent < role = ((done_exactly r (Inherit role parent)).0 done).1 in
+    let up : after.parent role ≡ Some parent =
+    one_given r (Inherit role parent) role parent refl done in
+    let own : after.granted role allowed ≡ r.granted role allowed =
+    inherit_keeps r role parent role allowed in
+    let same = others_allow_same r role parent parent allowed
+    (λ leads. omega (arith, below, chain_goes_down r parent leads.0 role lesser leads.1)) in (
+      λ a. elim ((allows_by_parent after role allowed).0 a) [
+        | inl is ↦ inl (sym own ∙ is)
+        | inr by ↦
+            let one : by.0 ≡ parent = same_Some by.0 parent (sym by.1 ∙ up) in
+            inr (same.0 (subst (λ k. Allows after k allowed) one by.2))
+      ],
+      λ either. elim either [
+        | inl is ↦ allows_granted after role allowed (own ∙ is)
+        | inr a ↦ allows_up after role parent allowed up (same.1 a)
+      ],
+    )

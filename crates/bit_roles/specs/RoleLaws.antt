@@ -1,11 +1,50 @@
 -- Laws of the role machine, for all requests.
 use Rattle.std.specs.List.{list_any}
-use Rattle.std.specs.Prelude.{◌≡◌, ℕ, suc, ◌+◌, ◌<◌, ◌≤◌, Bool, false, ◌&&◌, ◌||◌, ◌==◌, Some, List, slice_get}
-use Rattle.bit_roles.specs.Roles.{Roles, ancestor, Allows, HasLesserParents, roles_after, request_answers, final_roles}
+use Rattle.std.specs.Option.{option_map}
+use Rattle.std.specs.Prelude.{◌≡◌, ℕ, suc, ◌+◌, ◌<◌, ◌≤◌, ◌↔◌, ◌⊎◌, Bool, true, false, ◌&&◌, ◌||◌, ◌==◌, Some, List, slice_get, take}
+use Rattle.bit_roles.specs.Roles.{Roles, ancestor, LeadsTo, Allows, HasLesserParents, answer_to, roles_after, request_answers, final_roles, bare_roles}
 use Rattle.bit_roles.specs.declared.Request.{Request}
 use Rattle.bit_roles.specs.declared.Request.TheVariants.{Grant, Inherit}
 use Rattle.bit_roles.specs.declared.Answer.{Answer}
-use Rattle.bit_roles.specs.declared.Answer.TheVariants.{Done}
+use Rattle.bit_roles.specs.declared.Answer.TheVariants.{Done, Refused}
+
+-- there are the role and the permission of a grant, or the role of an `Inherit`, whose parent is
+-- less than the role
+abbrev pub IsPossible : Roles → Request → Type 0
+IsPossible r (Grant role permission) = (role < r.count) × (permission < r.permissions)
+IsPossible r (Inherit role parent) = (role < r.count) × (parent < role)
+
+-- a request is answered by Done exactly if it is possible
+abbrev pub DoneExactlyIfPossible : Type 0
+DoneExactlyIfPossible =
+    (r : Roles) (request : Request) → (answer_to r request ≡ Done) ↔ IsPossible r request
+
+-- a request that is refused changes nothing
+abbrev pub RefusedChangesNothing : Type 0
+RefusedChangesNothing =
+    (r : Roles) (request : Request) → answer_to r request ≡ Refused → roles_after r request ≡ r
+
+-- requests keep how many roles and permissions there are
+abbrev pub NumbersStay : Type 0
+NumbersStay =
+    (r : Roles) (requests : List Request)
+    → ((final_roles r requests).count ≡ r.count)
+    × ((final_roles r requests).permissions ≡ r.permissions)
+
+-- in every list, answer i is the answer to request i in the state that the earlier requests leave
+abbrev pub AnswersAreOfTheirStates : Type 0
+AnswersAreOfTheirStates =
+    (r : Roles) (requests : List Request) (i : ℕ)
+    → slice_get (request_answers r requests) i
+    ≡ option_map (answer_to (final_roles r (take i requests))) (slice_get requests i)
+
+-- a role allows just the permissions that it was granted and those that its parent allows
+abbrev pub AllowsOwnAndParents : Type 0
+AllowsOwnAndParents =
+    (r : Roles) (role permission : ℕ)
+    → Allows r role permission
+    ↔ ((r.granted role permission ≡ true)
+    ⊎ ((parent : ℕ) × (r.parent role ≡ Some parent) × Allows r parent permission))
 
 -- whether a request grants this permission to this role
 abbrev pub grants : ℕ → ℕ → Request → Bool
@@ -28,6 +67,39 @@ GrantingTakesNothingAway =
     (r : Roles) (role permission other allowed : ℕ)
     → Allows r other allowed
     → Allows (roles_after r (Grant role permission)) other allowed
+
+-- roles with no permission and no parent allow nothing
+abbrev pub NothingIsAllowedAtFirst : Type 0
+NothingIsAllowedAtFirst =
+    (count permissions role permission : ℕ)
+    → Allows (bare_roles count permissions) role permission
+    → ⊥
+
+-- a grant that is done gives its permission to its role and to those that a chain of parents leads
+-- to it from, and gives and takes nothing else
+abbrev pub GrantsGiveJustTheirPermission : Type 0
+GrantsGiveJustTheirPermission =
+    (r : Roles) (role permission other allowed : ℕ)
+    → answer_to r (Grant role permission) ≡ Done
+    → Allows (roles_after r (Grant role permission)) other allowed
+    ↔ (Allows r other allowed ⊎ ((allowed ≡ permission) × LeadsTo r other role))
+
+-- if each parent has a lesser number than its role, a role that was just given a parent allows what
+-- it was granted and what the parent allowed before
+abbrev pub InheritsWhatTheParentAllowed : Type 0
+InheritsWhatTheParentAllowed =
+    (r : Roles) (role parent allowed : ℕ)
+    → HasLesserParents r
+    → answer_to r (Inherit role parent) ≡ Done
+    → Allows (roles_after r (Inherit role parent)) role allowed
+    ↔ ((r.granted role allowed ≡ true) ⊎ Allows r parent allowed)
+
+-- a new parent of a role changes nothing for a role that no chain of parents leads to it from
+abbrev pub InheritingChangesOnlyDescendants : Type 0
+InheritingChangesOnlyDescendants =
+    (r : Roles) (role parent other allowed : ℕ)
+    → (LeadsTo r other role → ⊥)
+    → Allows (roles_after r (Inherit role parent)) other allowed ↔ Allows r other allowed
 
 -- request i of a list asks that the role inherit from the parent, and its answer is Done
 abbrev pub GivesParent : List Request → List Answer → ℕ → ℕ → ℕ → Type 0

@@ -3,9 +3,43 @@
 //! `serve` states that `serve` answers as this machine does, and leaves the machine's last state.
 //! The laws also speak of `Allows`, which the contract of `allows` uses.
 
+ghost use Rattle.bit_roles.specs.RoleLaws.{DoneExactlyIfPossible, RefusedChangesNothing};
+ghost use Rattle.bit_roles.specs.RoleLaws.{AnswersAreOfTheirStates, AllowsOwnAndParents};
+ghost use Rattle.bit_roles.specs.RoleLaws.{NumbersStay, NothingIsAllowedAtFirst};
+ghost use Rattle.bit_roles.specs.RoleLaws.{GrantsGiveJustTheirPermission};
+ghost use Rattle.bit_roles.specs.RoleLaws.{InheritsWhatTheParentAllowed};
+ghost use Rattle.bit_roles.specs.RoleLaws.{InheritingChangesOnlyDescendants};
 ghost use Rattle.bit_roles.specs.RoleLaws.{GrantsAreThoseAskedFor, GrantingTakesNothingAway};
 ghost use Rattle.bit_roles.specs.RoleLaws.{ParentsAreThoseLastGiven, ParentsStayIfNoneIsGiven};
 ghost use Rattle.bit_roles.specs.RoleLaws.{ParentsStayLesser, NoChainComesBack};
+
+/// States that a request is answered by `Done` exactly if it is possible: there is its role, and a
+/// `Grant` names a permission that exists, an `Inherit` a parent that is less than the role.
+pub fn done_exactly_if_possible()
+    ensures { DoneExactlyIfPossible }
+{}
+
+/// States that a request which is answered by `Refused` changes nothing.
+pub fn refused_changes_nothing()
+    ensures { RefusedChangesNothing }
+{}
+
+/// States that requests keep how many roles and permissions there are.
+pub fn numbers_stay()
+    ensures { NumbersStay }
+{}
+
+/// States that in every list, answer `i` is the answer to request `i` in the state that the earlier
+/// requests leave. So what holds of one answer in any state holds of each answer of the list.
+pub fn answers_are_of_their_states()
+    ensures { AnswersAreOfTheirStates }
+{}
+
+/// States that a role allows just the permissions that it was granted and those that its parent
+/// allows.
+pub fn allows_own_and_parents()
+    ensures { AllowsOwnAndParents }
+{}
 
 /// States that after a list of requests a role has just the permissions that it was granted before
 /// the list and those that the list grants it.
@@ -16,6 +50,29 @@ pub fn grants_are_those_asked_for()
 /// States that a role which allows a permission still allows it after any grant.
 pub fn granting_takes_nothing_away()
     ensures { GrantingTakesNothingAway }
+{}
+
+/// States that roles without permissions and parents allow nothing.
+pub fn nothing_is_allowed_at_first()
+    ensures { NothingIsAllowedAtFirst }
+{}
+
+/// States what each role allows after a `Grant` that is done: what it allowed before, and the
+/// permission of the grant if the role is that of the grant or a chain of parents leads to it.
+pub fn grants_give_just_their_permission()
+    ensures { GrantsGiveJustTheirPermission }
+{}
+
+/// States what a role allows after an `Inherit` for it that is done, if each parent has a lesser
+/// number than its role: what the role was granted, and what its new parent allowed before.
+pub fn inherits_what_the_parent_allowed()
+    ensures { InheritsWhatTheParentAllowed }
+{}
+
+/// States that an `Inherit` changes only what its role allows, and what the roles allow from which a
+/// chain of parents leads to it.
+pub fn inheriting_changes_only_descendants()
+    ensures { InheritingChangesOnlyDescendants }
 {}
 
 /// States that after a list of requests a role has the parent that the list gave it last: that of
