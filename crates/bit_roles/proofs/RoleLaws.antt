@@ -9,6 +9,7 @@ use Rattle.bit_roles.specs.Roles.{Roles, parent_of, ancestor, LeadsTo, Allows, H
 use Rattle.bit_roles.specs.RoleLaws.{grants, IsPossible, GivesParent, GivesNoParentFrom}
 use Rattle.bit_roles.specs.declared.Request.{Request}
 use Rattle.bit_roles.specs.declared.Request.TheVariants.{Grant, Inherit}
+use Rattle.bit_roles.specs.declared.Answer.{Answer}
 use Rattle.bit_roles.specs.declared.Answer.TheVariants.{Done, Refused}
 
 -- the role that n + 1 parents lead to from a role is the one that n parents lead to from its parent
@@ -473,6 +474,21 @@ grant_gives r role permission other allowed = by (may_grant r role permission)
         )
       ],
     )
+
+-- a grant of another permission, or to a role that no chain of parents leads to, gives nothing
+pub others_gain_nothing : (r : Roles) (role permission other allowed : ℕ) →
+    ((allowed ≡ permission) × LeadsTo r other role → ⊥) →
+    Allows (roles_after r (Grant role permission)) other allowed → Allows r other allowed
+others_gain_nothing r role permission other allowed apart a =
+    by (answer_to r (Grant role permission)) refl
+  where
+    by : (answer : Answer) → answer_to r (Grant role permission) ≡ answer → Allows r other allowed
+    by Done is = elim ((grant_gives r role permission other allowed is).0 a) [
+      | inl was ↦ was
+      | inr new ↦ absurd (apart new)
+    ]
+    by Refused is =
+        subst (λ q. Allows q other allowed) (refused_keeps r (Grant role permission) is) a
 
 -- a new parent of a role changes no chain that does not come to the role
 chain_past : (r : Roles) (role parent other n : ℕ) → (LeadsTo r other role → ⊥) →

@@ -16,11 +16,12 @@
 //! ```
 #![tactic(auto)]
 
-ghost use Rattle.std.specs.Prelude.{◌≡◌, ◌≢◌, ℕ, ◌<◌, ◌↔◌, length, true, Some, IfSome, IsOk};
+ghost use Rattle.std.specs.Prelude.{◌≡◌, ◌≢◌, ℕ, ◌<◌, ◌↔◌, ◌⊎◌, length};
+ghost use Rattle.std.specs.Prelude.{true, false, Some, None, IfSome, IsOk};
 ghost use Rattle.std.specs.Prelude.{IsTrue};
 ghost use Rattle.bittle.specs.Shapes.{Fits};
 ghost use Rattle.bittle.specs.Values.{set_in};
-ghost use Rattle.bit_roles.specs.Roles.{roles_of, bare_roles, Allows, HasLesserParents};
+ghost use Rattle.bit_roles.specs.Roles.{roles_of, bare_roles, LeadsTo, Allows, HasLesserParents};
 ghost use Rattle.bit_roles.specs.Roles.{answer_to, roles_after, request_answers, final_roles};
 
 #[doc(hidden)]
@@ -92,8 +93,10 @@ impl<B: BitsOwned, const N: usize> Roles<B, N> {
         }
     }
 
-    /// Grants a permission to a role. A permission that was granted before stays granted. If there
-    /// is no such role or permission, the call changes nothing and returns `Err`.
+    /// Grants a permission to a role. A permission that was granted before stays granted. The role
+    /// and those that inherit from it allow the permission afterwards. No other role allows more
+    /// than before, and none allows less. If there is no such role or permission, the call changes
+    /// nothing and returns `Err`.
     pub fn grant(&mut self, role: u32, permission: u32) -> Result<(), Refused>
         ensures done { IsOk result ↔ ((role < N) × (permission < B.type_capacity)) }
         ensures granted { let after = roles_of N B.type_capacity (set_in B.Shape B.Order.Endian)
@@ -109,6 +112,19 @@ impl<B: BitsOwned, const N: usize> Roles<B, N> {
             let after = roles_of N B.type_capacity (set_in B.Shape B.Order.Endian)
             self.new.granted self.new.parents in (other more : ℕ) → more ≢ permission
             → after.granted other more ≡ before.granted other more }
+        ensures allows { let after = roles_of N B.type_capacity (set_in B.Shape B.Order.Endian)
+            self.new.granted self.new.parents in IsOk result → Allows after role permission }
+        ensures still_allows { let before = roles_of N B.type_capacity
+            (set_in B.Shape B.Order.Endian) self.old.granted self.old.parents in
+            let after = roles_of N B.type_capacity (set_in B.Shape B.Order.Endian)
+            self.new.granted self.new.parents in (other allowed : ℕ)
+            → Allows before other allowed → Allows after other allowed }
+        ensures others_gain_nothing { let before = roles_of N B.type_capacity
+            (set_in B.Shape B.Order.Endian) self.old.granted self.old.parents in
+            let after = roles_of N B.type_capacity (set_in B.Shape B.Order.Endian)
+            self.new.granted self.new.parents in (other allowed : ℕ)
+            → ((allowed ≡ permission) × LeadsTo before other role → ⊥)
+            → Allows after other allowed → Allows before other allowed }
         ensures parents { self.new.parents ≡ self.old.parents }
         ensures roles { roles_of N B.type_capacity (set_in B.Shape B.Order.Endian)
             self.new.granted self.new.parents
@@ -122,8 +138,10 @@ impl<B: BitsOwned, const N: usize> Roles<B, N> {
         Ok(())
     }
 
-    /// Gives a role a parent, in place of any parent that it had. If there is no such role, or
-    /// `parent` is not less than `role`, the call changes nothing and returns `Err`.
+    /// Gives a role a parent, in place of any parent that it had. Afterwards the role allows what it
+    /// was granted and what the new parent allows; it loses what only the old parent allowed. If
+    /// there is no such role, or `parent` is not less than `role`, the call changes nothing and
+    /// returns `Err`.
     pub fn inherit(&mut self, role: u32, parent: u32) -> Result<(), Refused>
         ensures done { IsOk result ↔ ((role < N) × (parent < role)) }
         ensures parent { let after = roles_of N B.type_capacity (set_in B.Shape B.Order.Endian)
@@ -133,6 +151,23 @@ impl<B: BitsOwned, const N: usize> Roles<B, N> {
             let after = roles_of N B.type_capacity (set_in B.Shape B.Order.Endian)
             self.new.granted self.new.parents in (other : ℕ) → other ≢ role
             → after.parent other ≡ before.parent other }
+        ensures allows { let before = roles_of N B.type_capacity
+            (set_in B.Shape B.Order.Endian) self.old.granted self.old.parents in
+            let after = roles_of N B.type_capacity (set_in B.Shape B.Order.Endian)
+            self.new.granted self.new.parents in (allowed : ℕ) → IsOk result
+            → Allows before parent allowed → Allows after role allowed }
+        ensures allows_only { let before = roles_of N B.type_capacity
+            (set_in B.Shape B.Order.Endian) self.old.granted self.old.parents in
+            let after = roles_of N B.type_capacity (set_in B.Shape B.Order.Endian)
+            self.new.granted self.new.parents in (allowed : ℕ) → IsOk result
+            → Allows after role allowed
+            → (before.granted role allowed ≡ true) ⊎ Allows before parent allowed }
+        ensures others_allow { let before = roles_of N B.type_capacity
+            (set_in B.Shape B.Order.Endian) self.old.granted self.old.parents in
+            let after = roles_of N B.type_capacity (set_in B.Shape B.Order.Endian)
+            self.new.granted self.new.parents in (other allowed : ℕ)
+            → (LeadsTo before other role → ⊥)
+            → Allows after other allowed ↔ Allows before other allowed }
         ensures granted { self.new.granted ≡ self.old.granted }
         ensures roles { roles_of N B.type_capacity (set_in B.Shape B.Order.Endian)
             self.new.granted self.new.parents
@@ -180,6 +215,9 @@ impl<B: BitsOwned, const N: usize> Roles<B, N> {
     pub fn allows(&self, role: u32, permission: u32) -> bool
         ensures value { IsTrue result ↔ Allows (roles_of N B.type_capacity
             (set_in B.Shape B.Order.Endian) self.now.granted self.now.parents) role permission }
+        ensures denies { let roles = roles_of N B.type_capacity (set_in B.Shape B.Order.Endian)
+            self.now.granted self.now.parents in roles.granted role permission ≡ false
+            → roles.parent role ≡ None → result ≡ false }
         ensures a_role { IsTrue result → role < N }
         ensures a_permission { IsTrue result → permission < B.type_capacity }
     {

@@ -112,6 +112,88 @@ pub fn inherit_and_ask_grant<B: BitsOwned, const N: usize>(
     roles.is_granted(other, permission) == before
 }
 
+/// Grants a permission to a role, and returns whether the role allows it afterwards. The result is
+/// always `true`, also if the grant is refused.
+pub fn grant_and_ask_allowed<B: BitsOwned, const N: usize>(
+    roles: &mut Roles<B, N>,
+    role: u32,
+    permission: u32,
+) -> bool
+    ensures { result ≡ true }
+{
+    match roles.grant(role, permission) {
+        Ok(()) => roles.allows(role, permission),
+        Err(Refused) => true,
+    }
+}
+
+/// Grants a permission to a role, and returns whether `other` still allows a permission that it
+/// allowed before. The result is always `true`, also if `other` did not allow it.
+pub fn grant_and_ask_still_allowed<B: BitsOwned, const N: usize>(
+    roles: &mut Roles<B, N>,
+    role: u32,
+    permission: u32,
+    other: u32,
+    allowed: u32,
+) -> bool
+    ensures { result ≡ true }
+{
+    let before = roles.allows(other, allowed);
+    let _done = roles.grant(role, permission);
+    !before || roles.allows(other, allowed)
+}
+
+/// Grants a permission to a role, and returns whether `other` allowed another permission before if
+/// it allows it afterwards. The result is always `true`: a grant gives only its own permission.
+pub fn grant_and_ask_gained<B: BitsOwned, const N: usize>(
+    roles: &mut Roles<B, N>,
+    role: u32,
+    permission: u32,
+    other: u32,
+    allowed: u32,
+) -> bool
+    ensures { result ≡ true }
+{
+    let before = roles.allows(other, allowed);
+    let _done = roles.grant(role, permission);
+    if allowed != permission && roles.allows(other, allowed) {
+        before
+    } else {
+        true
+    }
+}
+
+/// Gives a role a parent, and returns whether the role allows a permission that the parent allowed.
+/// The result is always `true`, also if the parent did not allow it, or the request is refused.
+pub fn inherit_and_ask_allowed<B: BitsOwned, const N: usize>(
+    roles: &mut Roles<B, N>,
+    role: u32,
+    parent: u32,
+    permission: u32,
+) -> bool
+    ensures { result ≡ true }
+{
+    let before = roles.allows(parent, permission);
+    match roles.inherit(role, parent) {
+        Ok(()) => !before || roles.allows(role, permission),
+        Err(Refused) => true,
+    }
+}
+
+/// Returns whether a role without a parent that was not granted a permission does not allow it. The
+/// result is always `true`, also for a role that has a parent or was granted the permission.
+pub fn denies_what_is_not_granted<B: BitsOwned, const N: usize>(
+    roles: &Roles<B, N>,
+    role: u32,
+    permission: u32,
+) -> bool
+    ensures { result ≡ true }
+{
+    roles.is_granted(role, permission)
+        || roles.parent(role).is_some()
+        || !roles.allows(role, permission)
+}
+
 /// Asks that a role inherit from itself. Returns `true`, since the request is refused.
 pub fn inherit_from_itself<B: BitsOwned, const N: usize>(roles: &mut Roles<B, N>, role: u32) -> bool
     ensures { result ≡ true }

@@ -2,7 +2,8 @@
 //!
 //! A permission is an index below 32. A role is a number, and its parent has a smaller one. What is
 //! proved is what `bit_roles` promises: a role allows a permission exactly if a chain of parents
-//! leads to a role that was granted the permission, and a grant takes nothing away.
+//! leads to a role that was granted the permission. A grant gives its permission to its role and to
+//! those that inherit from it, to no other role, and takes nothing away.
 #![tactic(auto)]
 
 use bit_roles::{Refused, Roles};

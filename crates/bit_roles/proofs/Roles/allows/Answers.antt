@@ -47,3 +47,9 @@ returns-clause-value g c =
 pub returns-clause-a_role : goal.returns-clause-a_role
 returns-clause-a_role g c _ =
     c.loop-at.invariant.inside (c.is_granted.ensures.a_role c.loop-at-test.false)
+
+pub returns-clause-denies : goal.returns-clause-denies
+returns-clause-denies g c own up =
+    absurd (allows_nothing (roles_of g.row.N g.B.Shape.type_capacity
+    (set_in g.B.Shape g.B.Order.Endian) c.args.self.now.granted c.args.self.now.parents)
+    c.args.role c.args.permission up own ((returns-clause-value g c).0 refl))

@@ -1,8 +1,8 @@
-use Rattle.std.proofs.Common.{◌<◌, get_or, length, ap, ◌∙◌, arith}
+use Rattle.std.proofs.Common.{◌<◌, get_or, length, ap, sym, subst, ◌∙◌, arith}
 use Rattle.std.proofs.lemmas.Option.{slice_get-get_or}
 use Rattle.bittle.specs.Values.{set_in}
-use Rattle.bit_roles.specs.Roles.{roles_of}
-use Rattle.bit_roles.proofs.RoleLaws.{now_granted, other_roles_keep, other_permissions_keep}
+use Rattle.bit_roles.specs.Roles.{Allows, roles_of}
+use Rattle.bit_roles.proofs.RoleLaws.{allows_granted, now_granted, other_roles_keep, other_permissions_keep, stays_allowed, others_gain_nothing}
 use Rattle.bit_roles.proofs.Rows.{row_granted}
 use Rattle.bit_roles.proofs.Roles.grant.Goals as goal
 
@@ -40,3 +40,17 @@ returns-clause-other_permissions g c other more apart =
     ∙ other_permissions_keep (roles_of g.row.N g.B.Shape.type_capacity
     (set_in g.B.Shape g.B.Order.Endian) c.args.self.now.granted c.args.self.now.parents)
     c.args.role c.args.permission other more apart
+
+pub returns-clause-allows : goal.returns-clause-allows
+returns-clause-allows g c done =
+    allows_granted _ c.args.role c.args.permission (returns-clause-granted g c done)
+
+pub returns-clause-still_allows : goal.returns-clause-still_allows
+returns-clause-still_allows g c other allowed was =
+    subst (λ roles. Allows roles other allowed) (sym (returns-clause-roles g c))
+    (stays_allowed _ c.args.role c.args.permission other allowed was)
+
+pub returns-clause-others_gain_nothing : goal.returns-clause-others_gain_nothing
+returns-clause-others_gain_nothing g c other allowed apart is =
+    others_gain_nothing _ c.args.role c.args.permission other allowed apart
+    (subst (λ roles. Allows roles other allowed) (returns-clause-roles g c) is)

@@ -1,7 +1,8 @@
-use Rattle.std.proofs.Common.{◌<◌, length, ap, ◌∙◌, arith}
+use Rattle.std.proofs.Common.{◌<◌, length, inr, ap, sym, subst, ◌∙◌, arith}
 use Rattle.bittle.specs.Values.{set_in}
-use Rattle.bit_roles.specs.Roles.{roles_of}
-use Rattle.bit_roles.proofs.RoleLaws.{other_parents_keep}
+use Rattle.bit_roles.specs.Roles.{Allows, roles_of}
+use Rattle.bit_roles.specs.declared.Request.TheVariants.{Inherit}
+use Rattle.bit_roles.proofs.RoleLaws.{done_exactly, inherit_gives, other_parents_keep, others_allow_same}
 use Rattle.bit_roles.proofs.Rows.{lesser_written, parent_written, row_inherits}
 use Rattle.bit_roles.proofs.Roles.inherit.Goals as goal
 
@@ -35,3 +36,30 @@ returns-clause-others g c other apart =
     ∙ other_parents_keep (roles_of g.row.N g.B.Shape.type_capacity
     (set_in g.B.Shape g.B.Order.Endian) c.args.self.now.granted c.args.self.now.parents)
     c.args.role c.args.parent other apart
+
+pub returns-clause-allows : goal.returns-clause-allows
+returns-clause-allows g c allowed done was =
+    let roles = roles_of g.row.N g.B.Shape.type_capacity (set_in g.B.Shape g.B.Order.Endian)
+    c.args.self.now.granted c.args.self.now.parents in
+    let is_done = (done_exactly roles (Inherit c.args.role c.args.parent)).1
+    (omega arith, omega arith) in
+    let gives = inherit_gives roles c.args.role c.args.parent allowed c.args.self.now.lesser is_done
+    in subst (λ r. Allows r c.args.role allowed) (sym (returns-clause-roles g c))
+    (gives.1 (inr was))
+
+pub returns-clause-allows_only : goal.returns-clause-allows_only
+returns-clause-allows_only g c allowed done is =
+    let roles = roles_of g.row.N g.B.Shape.type_capacity (set_in g.B.Shape g.B.Order.Endian)
+    c.args.self.now.granted c.args.self.now.parents in
+    let is_done = (done_exactly roles (Inherit c.args.role c.args.parent)).1
+    (omega arith, omega arith) in
+    let gives = inherit_gives roles c.args.role c.args.parent allowed c.args.self.now.lesser is_done
+    in gives.0 (subst (λ r. Allows r c.args.role allowed) (returns-clause-roles g c) is)
+
+pub returns-clause-others_allow : goal.returns-clause-others_allow
+returns-clause-others_allow g c other allowed apart =
+    let same = returns-clause-roles g c in
+    let keep = others_allow_same _ c.args.role c.args.parent other allowed apart in (
+      λ a. keep.0 (subst (λ r. Allows r other allowed) same a),
+      λ a. subst (λ r. Allows r other allowed) (sym same) (keep.1 a),
+    )
