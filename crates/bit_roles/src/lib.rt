@@ -17,8 +17,10 @@
 #![tactic(auto)]
 
 ghost use Rattle.std.specs.Prelude.{◌≡◌, ◌≢◌, ℕ, ◌<◌, ◌↔◌, ◌⊎◌, length};
-ghost use Rattle.std.specs.Prelude.{true, false, Some, None, IfSome, IsOk};
+ghost use Rattle.std.specs.Prelude.{true, false, Some, None, IfSome, IsSome, IsOk};
+ghost use Rattle.std.specs.Prelude.{option_copied, slice_get};
 ghost use Rattle.std.specs.Prelude.{IsTrue};
+ghost use Rattle.bittle.specs.PlainSet.{contains};
 ghost use Rattle.bittle.specs.Shapes.{Fits};
 ghost use Rattle.bittle.specs.Values.{set_in};
 ghost use Rattle.bit_roles.specs.Roles.{roles_of, bare_roles, LeadsTo, Allows, HasLesserParents};
@@ -193,6 +195,21 @@ impl<B: BitsOwned, const N: usize> Roles<B, N> {
             Some(set) => permission < B::bits() && set.test_bit(permission),
             None => false,
         }
+    }
+
+    /// Lends the set of the permissions that were granted to a role itself, or returns `None` if
+    /// there is no such role. The indexes follow the bit order of `B`.
+    pub fn granted(&self, role: u32) -> Option<&B>
+        ensures set { option_copied result ≡ slice_get self.now.granted role }
+        ensures a_role { IsSome result ↔ role < N }
+        ensures permissions { let roles = roles_of N B.type_capacity
+            (set_in B.Shape B.Order.Endian) self.now.granted self.now.parents in
+            IfSome result (λ set. (permission : ℕ) → permission < B.type_capacity
+            → contains (set_in B.Shape B.Order.Endian set.now) permission
+            ≡ roles.granted role permission) }
+    {
+        let set = self.granted.get(role as usize)?;
+        Some(set)
     }
 
     /// Returns the parent of a role, or `None` if it has none or there is no such role.

@@ -3,7 +3,7 @@
 ghost use Rattle.std.specs.Prelude.{◌≡◌, ◌<◌, IfSome, true};
 
 use bit_roles::{Refused, Roles};
-use bittle::BitsOwned;
+use bittle::{Bits, BitsOwned};
 
 /// Grants `permission` to `role`, and returns whether it is granted afterwards. The result is
 /// always `true`, also if the grant is refused.
@@ -199,6 +199,19 @@ pub fn inherit_from_itself<B: BitsOwned, const N: usize>(roles: &mut Roles<B, N>
     ensures { result ≡ true }
 {
     roles.inherit(role, role).is_err()
+}
+
+/// Returns whether a permission is in the set that is lent for a role exactly if it was granted to
+/// the role. The result is always `true`, also if there is no such role or permission.
+pub fn lent_as_granted(roles: &Roles<u64, 8>, role: u32, permission: u32) -> bool
+    ensures { result ≡ true }
+{
+    match roles.granted(role) {
+        Some(set) => {
+            permission >= 64 || set.test_bit(permission) == roles.is_granted(role, permission)
+        }
+        None => true,
+    }
 }
 
 /// Returns the name of a role's parent from a table with a name for each role. Returns `None` if
