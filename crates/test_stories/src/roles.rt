@@ -83,6 +83,8 @@ fn a_parent_in_place_of_another(rt: HostRuntime) -> Result<(), Fail> {
     holds!(rt; roles.allows(2, 3) && !roles.is_granted(2, 3));
     same!(rt; roles.inherit(2, 1), Ok(()));
     holds!(rt; !roles.allows(2, 3) && roles.allows(0, 3));
+    same!(rt; (roles.granted(0).copied(), roles.granted(2).copied()), (Some(0b1000), Some(0)));
+    holds!(rt; roles.granted(3).is_none());
     // There is no permission 11, and 11 does not wrap to 3.
     holds!(rt; !roles.allows(0, 11) && !roles.is_granted(0, 11));
     let text = format!(in rt.alloc(); "{Refused}")?;
