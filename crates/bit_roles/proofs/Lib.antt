@@ -1,2 +1,3 @@
+pub mod CallRuns
 pub mod RoleLaws
 pub mod Rows

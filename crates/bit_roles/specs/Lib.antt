@@ -1,2 +1,3 @@
+pub mod CallHistories
 pub mod RoleLaws
 pub mod Roles

@@ -18,7 +18,7 @@
 
 ghost use Rattle.std.specs.Prelude.{◌≡◌, ◌≢◌, ℕ, ◌<◌, ◌↔◌, ◌⊎◌, length};
 ghost use Rattle.std.specs.Prelude.{true, false, Some, None, IfSome, IsSome, IsOk};
-ghost use Rattle.std.specs.Prelude.{option_copied, slice_get};
+ghost use Rattle.std.specs.Prelude.{is_ok, if◌then◌else◌, option_copied, slice_get};
 ghost use Rattle.std.specs.Prelude.{IsTrue};
 ghost use Rattle.bittle.specs.PlainSet.{contains};
 ghost use Rattle.bittle.specs.Shapes.{Fits};
@@ -128,6 +128,9 @@ impl<B: BitsOwned, const N: usize> Roles<B, N> {
             → ((allowed ≡ permission) × LeadsTo before other role → ⊥)
             → Allows after other allowed → Allows before other allowed }
         ensures parents { self.new.parents ≡ self.old.parents }
+        ensures answer { (if is_ok result then Answer.Done else Answer.Refused)
+            ≡ answer_to (roles_of N B.type_capacity (set_in B.Shape B.Order.Endian)
+            self.old.granted self.old.parents) (Request.Grant role permission) }
         ensures roles { roles_of N B.type_capacity (set_in B.Shape B.Order.Endian)
             self.new.granted self.new.parents
             ≡ roles_after (roles_of N B.type_capacity (set_in B.Shape B.Order.Endian)
@@ -171,6 +174,9 @@ impl<B: BitsOwned, const N: usize> Roles<B, N> {
             → (LeadsTo before other role → ⊥)
             → Allows after other allowed ↔ Allows before other allowed }
         ensures granted { self.new.granted ≡ self.old.granted }
+        ensures answer { (if is_ok result then Answer.Done else Answer.Refused)
+            ≡ answer_to (roles_of N B.type_capacity (set_in B.Shape B.Order.Endian)
+            self.old.granted self.old.parents) (Request.Inherit role parent) }
         ensures roles { roles_of N B.type_capacity (set_in B.Shape B.Order.Endian)
             self.new.granted self.new.parents
             ≡ roles_after (roles_of N B.type_capacity (set_in B.Shape B.Order.Endian)

@@ -1,8 +1,11 @@
 //! Callers of roles.
 
-ghost use Rattle.std.specs.Prelude.{◌≡◌, ◌<◌, IfSome, true};
+ghost use Rattle.std.specs.Prelude.{◌≡◌, ◌<◌, [], ◌∷◌, if◌then◌else◌, IfSome, true};
+ghost use Rattle.bittle.specs.Values.{set_in};
+ghost use Rattle.bit_roles.specs.CallHistories.{IsHistory};
+ghost use Rattle.bit_roles.specs.Roles.{roles_of};
 
-use bit_roles::{Refused, Roles};
+use bit_roles::{Answer, Refused, Request, Roles};
 use bittle::{Bits, BitsOwned};
 
 /// Grants `permission` to `role`, and returns whether it is granted afterwards. The result is
@@ -192,6 +195,27 @@ pub fn denies_what_is_not_granted<B: BitsOwned, const N: usize>(
     roles.is_granted(role, permission)
         || roles.parent(role).is_some()
         || !roles.allows(role, permission)
+}
+
+/// Grants a permission to a role, then gives the role a parent, and returns whether each was done.
+/// The clause says that the two calls, with what they return, are a history of calls: they lead
+/// from the roles before to the roles afterwards.
+pub fn grant_and_inherit<B: BitsOwned, const N: usize>(
+    roles: &mut Roles<B, N>,
+    role: u32,
+    permission: u32,
+    parent: u32,
+) -> (bool, bool)
+    ensures { IsHistory (roles_of N B.type_capacity (set_in B.Shape B.Order.Endian)
+        roles.old.granted roles.old.parents)
+        ((Request.Grant role permission, if result.0 then Answer.Done else Answer.Refused)
+        ∷ (Request.Inherit role parent, if result.1 then Answer.Done else Answer.Refused)
+        ∷ []) (roles_of N B.type_capacity (set_in B.Shape B.Order.Endian)
+        roles.new.granted roles.new.parents) }
+{
+    let granted = roles.grant(role, permission).is_ok();
+    let inherited = roles.inherit(role, parent).is_ok();
+    (granted, inherited)
 }
 
 /// Asks that a role inherit from itself. Returns `true`, since the request is refused.
