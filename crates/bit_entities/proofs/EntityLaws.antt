@@ -1,11 +1,11 @@
 -- What follows from the entity machine for each event, and for each list of them.
-use Rattle.std.proofs.Common.{◌≡◌, ℕ, ◌<◌, ◌⊎◌, ◌↔◌, Bool, true, false, not, cond, Option, Some, None, List, [], ◌∷◌, inl, inr, refl, sym, ap, ◌∙◌, arith}
-use Rattle.std.proofs.lemmas.Bool.{true≢false}
+use Rattle.std.proofs.Common.{◌≡◌, ◌≢◌, ℕ, ◌<◌, ◌⊎◌, ◌↔◌, Bool, true, false, not, cond, Option, Some, None, List, [], ◌∷◌, inl, inr, refl, sym, ap, ◌∙◌, arith}
+use Rattle.std.proofs.lemmas.Bool.{cases_lt, lt-ltb, true≢false}
 use Rattle.bittle.specs.PlainSet.{PlainSet, complement, empty_set}
 use Rattle.bittle.specs.Searches.{IsFirstIn}
 use Rattle.bittle.proofs.CallerSets.{complement_within}
 use Rattle.bit_entities.specs.Entities.{World, IsWorld, empty_world, least_dead, may_have, with_living, without_entity, with_component, spawned_or_full, with_spawned, answer_to, world_after, final_world}
-use Rattle.bit_entities.specs.EntityLaws.{IsNew}
+use Rattle.bit_entities.specs.EntityLaws.{IsLeastDead, IsNew, IsDoneExactlyIf}
 use Rattle.bit_entities.specs.declared.Event.{Event}
 use Rattle.bit_entities.specs.declared.Event.TheVariants.{Spawn, Remove, Attach, Detach}
 use Rattle.bit_entities.specs.declared.Answer.TheVariants.{Spawned, Full, Done, Refused}
@@ -90,18 +90,60 @@ in_it s k h e = by (s.has k) (sym (complement_within s k h) ∙ e)
     by true e = refl
     by false e = absurd (true≢false e)
 
+-- the first member of the complement is the least number that is not alive
+least_is : (w : World) (entity : ℕ) →
+    IsFirstIn (complement w.alive) 0 w.alive.capacity (Some entity) → IsLeastDead w entity
+least_is w entity found =
+    let out = outside w.alive entity found.2 in record {
+      below = out.0;
+      is_dead = out.1;
+      least = λ k h. in_it w.alive k (omega (arith, h, out.0)) (found.3 k (omega arith) h);
+    }
+
+pub spawned_iff : (w : World) (event : Event) (entity : ℕ) →
+    (answer_to w event ≡ Spawned entity) ↔ ((event ≡ Spawn) × IsLeastDead w entity)
+spawned_iff w Spawn entity = (
+  λ e. (refl, least_is w entity (spawned_is w Spawn entity e).0),
+  λ least. from (least_dead w) refl least.1,
+)
+  where
+    from : (o : Option ℕ) → least_dead w ≡ o → IsLeastDead w entity →
+        spawned_or_full o ≡ Spawned entity
+    from None l least = absurd (true≢false (sym
+        (in_it w.alive entity least.below
+        (listed_first (complement w.alive) None l entity (omega arith) least.below))
+        ∙ least.is_dead))
+    from (Some k) l least =
+        let found = least_is w k (listed_first (complement w.alive) (Some k) l) in
+        elim (cases_lt k entity) [
+          | inl before ↦ absurd (true≢false (sym (least.least k before) ∙ found.is_dead))
+          | inr g ↦ elim (cases_lt entity k) [
+            | inl before ↦ absurd (true≢false (sym (found.least entity before) ∙ least.is_dead))
+            | inr h ↦ let same : k ≡ entity = omega (arith, g, h) in ap Spawned same
+          ]
+        ]
+spawned_iff w (Remove other) entity =
+    (λ e. absurd (no_spawn (w.alive.has other) entity e), λ all. let is = all.0 in absurd (cc))
+spawned_iff w (Attach other component) entity = (
+  λ e. absurd (no_spawn (may_have w other component) entity e),
+  λ all. let is = all.0 in absurd (cc),
+)
+spawned_iff w (Detach other component) entity = (
+  λ e. absurd (no_spawn (may_have w other component) entity e),
+  λ all. let is = all.0 in absurd (cc),
+)
+
 pub spawned_new : (w : World) (event : Event) (entity : ℕ) → IsWorld w →
-    answer_to w event ≡ Spawned entity → IsNew w (world_after w event) entity
+    answer_to w event ≡ Spawned entity → IsNew w event (world_after w event) entity
 spawned_new w event entity is e =
     let found = spawned_is w event entity e in
-    let out = outside w.alive entity found.0.2 in
+    let least = (spawned_iff w event entity).0 e in
     record {
-      below = out.0;
-      was_dead = out.1;
-      least = λ k h. in_it w.alive k (omega (arith, h, out.0)) (found.0.3 k (omega arith) h);
+      asked = least.0;
+      first = least.1;
       lives = number_now w.alive entity true _ (ap (λ t. t.alive) found.1);
       has_nothing = λ component. ap (λ t. t.has entity component) found.1
-          ∙ dead_lacks w entity is out.1 component;
+          ∙ dead_lacks w entity is least.1.is_dead component;
     }
 
 pub full_iff_all : (w : World) (event : Event) → (answer_to w event ≡ Full)
@@ -150,3 +192,36 @@ refused_nothing w (Attach entity component) h =
     not_done (may_have w entity component) (with_component w entity component true) w h
 refused_nothing w (Detach entity component) h =
     not_done (may_have w entity component) (with_component w entity component false) w h
+
+-- `Done` is answered if the test is true, and else `Refused`
+is_done : (b : Bool) → (cond b Done Refused ≡ Done) ↔ (b ≡ true)
+is_done true = (λ e. refl, λ e. refl)
+is_done false = (λ e. absurd (cc), λ e. absurd (cc))
+
+is_refused : (b : Bool) → (cond b Done Refused ≡ Refused) ↔ (cond b Done Refused ≢ Done)
+is_refused true = (λ e. absurd (cc), λ none. absurd (none refl))
+is_refused false = (λ e d. cc, λ none. refl)
+
+pub done_if : (w : World) (entity component : ℕ) →
+    let lives = w.alive.has entity ≡ true in
+    let there = component < w.components in
+    IsDoneExactlyIf w (Remove entity) lives
+    × IsDoneExactlyIf w (Attach entity component) (lives × there)
+    × IsDoneExactlyIf w (Detach entity component) (lives × there)
+done_if w entity component = (
+  record { done = is_done (w.alive.has entity); refused = is_refused (w.alive.has entity) },
+  record { done = both; refused = is_refused (may_have w entity component) },
+  record { done = both; refused = is_refused (may_have w entity component) },
+)
+  where
+    both : (cond (may_have w entity component) Done Refused ≡ Done)
+        ↔ ((w.alive.has entity ≡ true) × (component < w.components))
+    both = (
+      λ e. let may = may_parts w entity component ((is_done (may_have w entity component)).0 e) in
+          (may.1, may.0),
+      λ all.
+          let there = lt-ltb component w.components all.1 in
+          let lives = all.0 in
+          let may : may_have w entity component ≡ true = rw (there, lives) refl in
+          (is_done (may_have w entity component)).1 may,
+    )

@@ -1,13 +1,12 @@
--- What holds of every list of events: which answers it has, when a number is spawned again, and
--- which components are kept.
+-- What holds of every list of events: which answers it has, when a number is spawned again, which
+-- entities live, and which components are kept.
 use Rattle.std.proofs.Common.{◌≡◌, ◌≢◌, ℕ, zero, suc, ◌<◌, ◌⊎◌, ◌↔◌, Bool, true, false, cond, ◌&&◌, ◌==◌, Option, Some, None, List, [], ◌∷◌, inl, inr, refl, sym, ap, ◌∙◌, arith}
-use Rattle.std.specs.Prelude.{slice_get}
+use Rattle.std.specs.Prelude.{option_map, slice_get, take}
 use Rattle.std.proofs.lemmas.Bool.{cases_eq, cases_Bool, eq-eqb, ne_eqb, eqb-true, lt-ltb, and_parts, true≢false}
-use Rattle.bit_entities.specs.Entities.{World, IsWorld, least_dead, may_have, without_entity, with_component, with_spawned, answer_to, world_after, event_answers, final_world}
-use Rattle.bit_entities.specs.EntityLaws.{IsAnsweredAt, IsKeptFrom, IsRemoved}
+use Rattle.bit_entities.specs.Entities.{World, IsWorld, least_dead, may_have, without_entity, with_component, spawned_or_full, with_spawned, answer_to, world_after, event_answers, final_world}
+use Rattle.bit_entities.specs.EntityLaws.{IsKeptFrom, IsRemoved, LivesFrom}
 use Rattle.bit_entities.specs.declared.Event.{Event}
 use Rattle.bit_entities.specs.declared.Event.TheVariants.{Spawn, Remove, Attach, Detach}
-use Rattle.bit_entities.specs.declared.Answer.{Answer}
 use Rattle.bit_entities.specs.declared.Answer.TheVariants.{Spawned, Done, Refused}
 use Rattle.bit_entities.proofs.EntityLaws.{one_stays, spawned_is}
 use Rattle.bit_entities.proofs.LeastDead.{outside}
@@ -15,21 +14,13 @@ use Rattle.bit_entities.proofs.Masks.{number_now}
 use Rattle.bit_entities.proofs.Worlds.{dead_lacks, left, has_now}
 
 -- an answer of a list is the answer in the world that the events before it leave
-pub answered_at : (w : World) (events : List Event) (i : ℕ) (reply : Answer) →
-    slice_get (event_answers w events) i ≡ Some reply → IsAnsweredAt w events i reply
-unfolding event_answers
-answered_at w [] i reply e = absurd (cc)
-answered_at w (event ∷ events) zero reply e = record {
-  event = event;
-  asked = refl;
-  answered = let is : answer_to w event ≡ reply = cc in sym is;
-}
-answered_at w (event ∷ events) (suc i) reply e =
-    let later = answered_at (world_after w event) events i reply e in record {
-      event = later.event;
-      asked = later.asked;
-      answered = later.answered;
-    }
+pub answered_at : (w : World) (events : List Event) (i : ℕ) →
+    slice_get (event_answers w events) i
+    ≡ option_map (answer_to (final_world w (take i events))) (slice_get events i)
+unfolding event_answers final_world
+answered_at w [] i = refl
+answered_at w (event ∷ events) zero = refl
+answered_at w (event ∷ events) (suc i) = answered_at (world_after w event) events i
 
 -- an entity lives on until it is removed
 lives_on : (w : World) (event : Event) (entity : ℕ) → w.alive.has entity ≡ true →
@@ -122,6 +113,147 @@ removed_between w (event ∷ events) entity (suc i) (suc j) h a b =
       omega (arith, later.2),
       after_one w event events entity later.0 later.3,
     )
+
+module _ (entity : ℕ) where
+  -- an entity that is removed is not alive
+  gone : (w : World) → (world_after w (Remove entity)).alive.has entity ≡ false
+  gone w = by (w.alive.has entity) refl
+    where
+      by : (b : Bool) → w.alive.has entity ≡ b →
+          (cond b (without_entity w entity) w).alive.has entity ≡ false
+      by true e = ap (λ t. cond t false (w.alive.has entity)) (eq-eqb entity entity refl)
+      by false e = e
+
+  removes_or_not : (event : Event) → (event ≡ Remove entity) ⊎ (event ≢ Remove entity)
+  removes_or_not Spawn = inr (λ e. cc)
+  removes_or_not (Attach other another) = inr (λ e. cc)
+  removes_or_not (Detach other another) = inr (λ e. cc)
+  removes_or_not (Remove other) = elim (cases_eq other entity) [
+    | inl same ↦ inl (ap Remove same)
+    | inr apart ↦ inr (λ e. apart (cc))
+  ]
+
+  -- if an event makes an entity alive, it spawned the entity
+  begun : (w : World) (event : Event) → w.alive.has entity ≡ false →
+      (world_after w event).alive.has entity ≡ true → answer_to w event ≡ Spawned entity
+  begun w Spawn dead lives = by (least_dead w) lives
+    where
+      by : (o : Option ℕ) → (with_spawned w o).alive.has entity ≡ true →
+          spawned_or_full o ≡ Spawned entity
+      by None e = absurd (true≢false (sym e ∙ dead))
+      by (Some k) e = elim (cases_eq entity k) [
+        | inl same ↦ ap Spawned (sym same)
+        | inr apart ↦ absurd (true≢false (sym e
+            ∙ ap (λ t. cond t true (w.alive.has entity)) (ne_eqb entity k apart) ∙ dead))
+      ]
+  begun w (Remove other) dead lives =
+      absurd (true≢false (sym (by (w.alive.has other) lives) ∙ dead))
+    where
+      by : (b : Bool) → (cond b (without_entity w other) w).alive.has entity ≡ true →
+          w.alive.has entity ≡ true
+      by true e = (left (entity == other) (w.alive.has entity) e).1
+      by false e = e
+  begun w (Attach other another) dead lives =
+      absurd (true≢false (sym (by (may_have w other another) lives) ∙ dead))
+    where
+      by : (b : Bool) →
+          (cond b (with_component w other another true) w).alive.has entity ≡ true →
+          w.alive.has entity ≡ true
+      by true e = e
+      by false e = e
+  begun w (Detach other another) dead lives =
+      absurd (true≢false (sym (by (may_have w other another) lives) ∙ dead))
+    where
+      by : (b : Bool) →
+          (cond b (with_component w other another false) w).alive.has entity ≡ true →
+          w.alive.has entity ≡ true
+      by true e = e
+      by false e = e
+
+  abbrev NoneRemoves : List Event → Type 0
+  NoneRemoves events = (j : ℕ) → slice_get events j ≢ Some (Remove entity)
+
+  -- an entity lives to the end of a list in which no event removes it
+  lives_to_end : (w : World) (events : List Event) → w.alive.has entity ≡ true →
+      NoneRemoves events → (final_world w events).alive.has entity ≡ true
+  unfolding final_world
+  lives_to_end w [] lives none = lives
+  lives_to_end w (event ∷ events) lives none = elim (lives_on w event entity lives) [
+    | inl on ↦ lives_to_end (world_after w event) events on (λ j. none (suc j))
+    | inr removed ↦ absurd (none zero (ap Some removed))
+  ]
+
+  lives_from : (w : World) (events : List Event) (k : ℕ) → LivesFrom w events entity k →
+      (final_world w events).alive.has entity ≡ true
+  unfolding final_world event_answers
+  lives_from w [] k from = let spawned = from.spawned in absurd (cc)
+  lives_from w (event ∷ events) zero from =
+      let was = from.spawned in
+      let is : answer_to w event ≡ Spawned entity = cc in
+      lives_to_end (world_after w event) events
+      (number_now w.alive entity true _ (ap (λ t. t.alive) (spawned_is w event entity is).1))
+      (λ j. from.not_removed (suc j) (omega arith))
+  lives_from w (event ∷ events) (suc k) from =
+      lives_from (world_after w event) events k (record {
+        spawned = from.spawned;
+        not_removed = λ j h. from.not_removed (suc j) (omega (arith, h));
+      })
+
+  -- if an entity is alive at the end, it was alive at first or was spawned, and no event removed it
+  -- since
+  lived_or_spawned : (w : World) (events : List Event) →
+      (final_world w events).alive.has entity ≡ true →
+      ((w.alive.has entity ≡ true) × NoneRemoves events)
+      ⊎ ((k : ℕ) × LivesFrom w events entity k)
+  unfolding final_world event_answers
+  lived_or_spawned w [] lives = inl (lives, λ j e. absurd (cc))
+  lived_or_spawned w (event ∷ events) lives =
+      by (lived_or_spawned (world_after w event) events lives)
+      (removes_or_not event) (cases_Bool (w.alive.has entity))
+    where
+      after : (k : ℕ) → ((j : ℕ) → k < j → slice_get events j ≢ Some (Remove entity)) → (j : ℕ) →
+          suc k < j → slice_get (event ∷ events) j ≢ Some (Remove entity)
+      after k none zero h = absurd (omega arith)
+      after k none (suc j) h = none j (omega arith)
+
+      rest : NoneRemoves events → (j : ℕ) → 0 < j →
+          slice_get (event ∷ events) j ≢ Some (Remove entity)
+      rest none zero h = absurd (omega arith)
+      rest none (suc j) h = none j
+
+      none_yet : (event ≢ Remove entity) → NoneRemoves events → NoneRemoves (event ∷ events)
+      none_yet leaves none zero = λ e. leaves (cc)
+      none_yet leaves none (suc j) = none j
+
+      by : (((world_after w event).alive.has entity ≡ true) × NoneRemoves events)
+          ⊎ ((k : ℕ) × LivesFrom (world_after w event) events entity k) →
+          (event ≡ Remove entity) ⊎ (event ≢ Remove entity) →
+          (w.alive.has entity ≡ true) ⊎ (w.alive.has entity ≡ false) →
+          ((w.alive.has entity ≡ true) × NoneRemoves (event ∷ events))
+          ⊎ ((k : ℕ) × LivesFrom w (event ∷ events) entity k)
+      by (inr (k, from)) _ _ = inr (
+        suc k,
+        record { spawned = from.spawned; not_removed = after k from.not_removed },
+      )
+      by (inl now) (inl removes) _ = absurd (true≢false (sym now.0
+          ∙ ap (λ v. (world_after w v).alive.has entity) removes ∙ gone w))
+      by (inl now) (inr leaves) (inl lived) = inl (lived, none_yet leaves now.1)
+      by (inl now) (inr leaves) (inr dead) = inr (
+        zero,
+        record { spawned = ap Some (begun w event dead now.0); not_removed = rest now.1 },
+      )
+
+  pub lives_iff : (w : World) (events : List Event) →
+      ((final_world w events).alive.has entity ≡ true)
+      ↔ (((w.alive.has entity ≡ true) × ((j : ℕ) → slice_get events j ≢ Some (Remove entity)))
+      ⊎ ((k : ℕ) × LivesFrom w events entity k))
+  lives_iff w events = (lived_or_spawned w events, from)
+    where
+      from : ((w.alive.has entity ≡ true) × NoneRemoves events)
+          ⊎ ((k : ℕ) × LivesFrom w events entity k) →
+          (final_world w events).alive.has entity ≡ true
+      from (inl lived) = lives_to_end w events lived.0 lived.1
+      from (inr spawned) = lives_from w events spawned.0 spawned.1
 
 module _ (entity component : ℕ) where
   -- the event removes the entity, or detaches the component from it

@@ -1,8 +1,12 @@
--- What a change of a world leaves as it was.
-use Rattle.std.proofs.Common.{◌≡◌, ◌≢◌, ℕ, Bool, true, false, cond, ◌&&◌, ◌==◌, refl, ap, ◌∙◌}
+-- What a change of a world, or an event, leaves as it was.
+use Rattle.std.proofs.Common.{◌≡◌, ◌≢◌, ℕ, ◌⊎◌, Bool, true, false, cond, ◌&&◌, ◌==◌, Option, Some, None, inl, inr, refl, sym, ap, ◌∙◌, subst}
 use Rattle.std.proofs.lemmas.Bool.{ne_eqb}
 use Rattle.bittle.specs.PlainSet.{PlainSet}
-use Rattle.bit_entities.specs.Entities.{World, with_number, without_entity, with_component}
+use Rattle.bit_entities.specs.Entities.{World, least_dead, may_have, with_number, without_entity, with_component, spawned_or_full, with_spawned, answer_to, world_after}
+use Rattle.bit_entities.specs.EntityLaws.{names, IsUnchanged}
+use Rattle.bit_entities.specs.declared.Event.{Event}
+use Rattle.bit_entities.specs.declared.Event.TheVariants.{Spawn, Remove, Attach, Detach}
+use Rattle.bit_entities.specs.declared.Answer.TheVariants.{Spawned}
 
 -- `with_number` changes the test of no other number
 pub number_other : (s : PlainSet) (i : ℕ) (is : Bool) (t : PlainSet) → t ≡ with_number s i is →
@@ -34,3 +38,84 @@ module _ (w t : World) (entity component : ℕ) (is : Bool)
       by : (a b : Bool) → b ≡ false → cond (a && b) is (w.has k c) ≡ w.has k c
       by true b off = ap (λ a. cond a is (w.has k c)) off
       by false b off = refl
+
+-- if a component is given or taken, no other entity changes
+component_elsewhere : (w : World) (entity component other : ℕ) (is : Bool) →
+    (other == entity) ≡ false → (b : Bool) →
+    IsUnchanged w (cond b (with_component w entity component is) w) other
+component_elsewhere w entity component other is named false =
+    record { life = refl; components = λ c. refl }
+component_elsewhere w entity component other is named true = record {
+  life = refl;
+  components = λ c. ap (λ b. cond (b && (c == component)) is (w.has other c)) named;
+}
+
+other_component : (w : World) (entity component : ℕ) (is b : Bool) →
+    ((cond b (with_component w entity component is) w).alive ≡ w.alive)
+    × ((each other : ℕ) → other ≢ component →
+    (cond b (with_component w entity component is) w).has each other ≡ w.has each other)
+other_component w entity component is false = (refl, λ each other apart. refl)
+other_component w entity component is true =
+    (refl, same_component w _ entity component is refl)
+
+same_sizes : (w t : World) (b : Bool) →
+    (t.alive.capacity ≡ w.alive.capacity) × (t.components ≡ w.components) →
+    ((cond b t w).alive.capacity ≡ w.alive.capacity) × ((cond b t w).components ≡ w.components)
+same_sizes w t true same = same
+same_sizes w t false same = (refl, refl)
+
+-- an event changes no entity that it neither names nor spawns
+pub unchanged : (w : World) (event : Event) (other : ℕ) → names event other ≡ false →
+    answer_to w event ≢ Spawned other → IsUnchanged w (world_after w event) other
+unchanged w Spawn other named apart = by (least_dead w) apart
+  where
+    by : (o : Option ℕ) → spawned_or_full o ≢ Spawned other →
+        IsUnchanged w (with_spawned w o) other
+    by None apart = record { life = refl; components = λ c. refl }
+    by (Some k) apart = record {
+      life = ap (λ b. cond b true (w.alive.has other))
+          (ne_eqb other k (λ same. apart (ap Spawned (sym same))));
+      components = λ c. refl;
+    }
+unchanged w (Remove entity) other named apart = by (w.alive.has entity)
+  where
+    by : (b : Bool) → IsUnchanged w (cond b (without_entity w entity) w) other
+    by false = record { life = refl; components = λ c. refl }
+    by true = record {
+      life = ap (λ b. cond b false (w.alive.has other)) named;
+      components = λ c. ap (λ b. cond b false (w.has other c)) named;
+    }
+unchanged w (Attach entity component) other named apart =
+    component_elsewhere w entity component other true named (may_have w entity component)
+unchanged w (Detach entity component) other named apart =
+    component_elsewhere w entity component other false named (may_have w entity component)
+
+-- an event that gives or takes a component changes no other component, and no life
+pub components_stay : (w : World) (event : Event) (entity component : ℕ) →
+    (event ≡ Attach entity component) ⊎ (event ≡ Detach entity component) →
+    ((world_after w event).alive ≡ w.alive) × ((each other : ℕ) → other ≢ component →
+    (world_after w event).has each other ≡ w.has each other)
+components_stay w event entity component (inl e) =
+    subst (λ v. ((world_after w v).alive ≡ w.alive) × ((each other : ℕ) → other ≢ component →
+    (world_after w v).has each other ≡ w.has each other)) (sym e)
+    (other_component w entity component true (may_have w entity component))
+components_stay w event entity component (inr e) =
+    subst (λ v. ((world_after w v).alive ≡ w.alive) × ((each other : ℕ) → other ≢ component →
+    (world_after w v).has each other ≡ w.has each other)) (sym e)
+    (other_component w entity component false (may_have w entity component))
+
+-- no event changes how many numbers and how many components there are
+pub sizes_stay : (w : World) (event : Event) →
+    ((world_after w event).alive.capacity ≡ w.alive.capacity)
+    × ((world_after w event).components ≡ w.components)
+sizes_stay w Spawn = by (least_dead w)
+  where
+    by : (o : Option ℕ) → ((with_spawned w o).alive.capacity ≡ w.alive.capacity)
+        × ((with_spawned w o).components ≡ w.components)
+    by None = (refl, refl)
+    by (Some k) = (refl, refl)
+sizes_stay w (Remove entity) = same_sizes w (without_entity w entity) (w.alive.has entity) (refl, refl)
+sizes_stay w (Attach entity component) =
+    same_sizes w (with_component w entity component true) (may_have w entity component) (refl, refl)
+sizes_stay w (Detach entity component) =
+    same_sizes w (with_component w entity component false) (may_have w entity component) (refl, refl)

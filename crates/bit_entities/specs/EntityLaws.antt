@@ -1,12 +1,10 @@
 -- Laws of the entity machine, for all events.
-use Rattle.std.specs.List.{fold}
-use Rattle.std.specs.Prelude.{◌≡◌, ◌≢◌, ℕ, suc, ◌<◌, ◌⊎◌, ◌↔◌, true, false, Some, List, [], ◌∷◌, slice_get, take}
+use Rattle.std.specs.Prelude.{◌≡◌, ◌≢◌, ℕ, suc, ◌<◌, ◌⊎◌, ◌↔◌, Bool, true, false, ◌==◌, Some, List, [], ◌∷◌, option_map, slice_get, take}
 use Rattle.bittle.specs.PlainSet.{PlainSet, ascending}
 use Rattle.bittle.specs.Searches.{NoneIn, IsFirstIn}
 use Rattle.bit_entities.specs.Entities.{World, IsWorld, empty_world, answer_to, world_after, event_answers, final_world, matching}
 use Rattle.bit_entities.specs.declared.Event.{Event}
 use Rattle.bit_entities.specs.declared.Event.TheVariants.{Spawn, Remove, Attach, Detach}
-use Rattle.bit_entities.specs.declared.Answer.{Answer}
 use Rattle.bit_entities.specs.declared.Answer.TheVariants.{Spawned, Full, Done, Refused}
 
 -- a world stays as `IsWorld` says after any events
@@ -19,12 +17,24 @@ DeadHaveNothing =
     (capacity count : ℕ) (events : List Event)
     → IsWorld (final_world (empty_world capacity count) events)
 
--- an entity is new: it is the least number that was not alive before, and now it is alive and has
--- no component
-pub record IsNew (before after : World) (entity : ℕ) : Type 0 where
-  pub below : entity < before.alive.capacity
-  pub was_dead : before.alive.has entity ≡ false
-  pub least : (k : ℕ) → k < entity → before.alive.has k ≡ true
+-- the number is below the capacity, it is not alive, and each number below it is alive
+pub record IsLeastDead (w : World) (entity : ℕ) : Type 0 where
+  pub below : entity < w.alive.capacity
+  pub is_dead : w.alive.has entity ≡ false
+  pub least : (k : ℕ) → k < entity → w.alive.has k ≡ true
+
+-- an entity is spawned exactly if an entity is asked for, and it is the least number that is not
+-- alive
+abbrev pub SpawnedExactlyIfLeast : Type 0
+SpawnedExactlyIfLeast =
+    (w : World) (event : Event) (entity : ℕ)
+    → (answer_to w event ≡ Spawned entity) ↔ ((event ≡ Spawn) × IsLeastDead w entity)
+
+-- an entity is new: an entity was asked for, this one is the least number that was not alive
+-- before, and now it is alive and has no component
+pub record IsNew (before : World) (event : Event) (after : World) (entity : ℕ) : Type 0 where
+  pub asked : event ≡ Spawn
+  pub first : IsLeastDead before entity
   pub lives : after.alive.has entity ≡ true
   pub has_nothing : (component : ℕ) → after.has entity component ≡ false
 
@@ -33,7 +43,7 @@ SpawnedAreNew =
     (w : World) (event : Event) (entity : ℕ)
     → IsWorld w
     → answer_to w event ≡ Spawned entity
-    → IsNew w (world_after w event) entity
+    → IsNew w event (world_after w event) entity
 
 -- Full is answered exactly if an entity is asked for and each number is alive
 abbrev pub FullExactlyIfAllAreAlive : Type 0
@@ -42,6 +52,21 @@ FullExactlyIfAllAreAlive =
     → (answer_to w event ≡ Full)
     ↔ ((event ≡ Spawn) × ((k : ℕ) → k < w.alive.capacity → w.alive.has k ≡ true))
 
+-- the event is answered by Done exactly if it may take effect, and else by Refused
+pub record IsDoneExactlyIf (w : World) (event : Event) (may : Type 0) : Type 0 where
+  pub done : (answer_to w event ≡ Done) ↔ may
+  pub refused : (answer_to w event ≡ Refused) ↔ (answer_to w event ≢ Done)
+
+-- a living entity may be removed; it may get and lose each component that there is
+abbrev pub DoneExactlyIfPossible : Type 0
+DoneExactlyIfPossible =
+    (w : World) (entity component : ℕ)
+    → let lives = w.alive.has entity ≡ true in
+    let there = component < w.components in
+    IsDoneExactlyIf w (Remove entity) lives
+    × IsDoneExactlyIf w (Attach entity component) (lives × there)
+    × IsDoneExactlyIf w (Detach entity component) (lives × there)
+
 -- an event that is answered by Refused or Full changes nothing
 abbrev pub RefusedChangesNothing : Type 0
 RefusedChangesNothing =
@@ -49,17 +74,48 @@ RefusedChangesNothing =
     → (answer_to w event ≡ Refused) ⊎ (answer_to w event ≡ Full)
     → world_after w event ≡ w
 
--- `reply` is the answer to event i of a list, in the world that the events before it leave
-pub record IsAnsweredAt (w : World) (events : List Event) (i : ℕ) (reply : Answer) : Type 0 where
-  pub event : Event
-  pub asked : slice_get events i ≡ Some event
-  pub answered : reply ≡ answer_to (fold world_after w (take i events)) event
+-- whether the event names the entity
+abbrev pub names : Event → ℕ → Bool
+names Spawn entity = false
+names (Remove named) entity = entity == named
+names (Attach named component) entity = entity == named
+names (Detach named component) entity = entity == named
 
+-- an entity is alive after a change exactly if it was alive before, and has the same components
+pub record IsUnchanged (before after : World) (entity : ℕ) : Type 0 where
+  pub life : after.alive.has entity ≡ before.alive.has entity
+  pub components : (component : ℕ) → after.has entity component ≡ before.has entity component
+
+-- an event changes no entity that it neither names nor spawns
+abbrev pub OthersAreUnchanged : Type 0
+OthersAreUnchanged =
+    (w : World) (event : Event) (other : ℕ)
+    → names event other ≡ false
+    → answer_to w event ≢ Spawned other
+    → IsUnchanged w (world_after w event) other
+
+-- an event that gives or takes a component changes no other component, and no life
+abbrev pub OtherComponentsStay : Type 0
+OtherComponentsStay =
+    (w : World) (event : Event) (entity component : ℕ)
+    → (event ≡ Attach entity component) ⊎ (event ≡ Detach entity component)
+    → ((world_after w event).alive ≡ w.alive)
+    × ((each other : ℕ) → other ≢ component → (world_after w event).has each other ≡ w.has each other)
+
+-- no event changes how many numbers and how many components there are
+abbrev pub SizesStay : Type 0
+SizesStay =
+    (w : World) (event : Event)
+    → ((world_after w event).alive.capacity ≡ w.alive.capacity)
+    × ((world_after w event).components ≡ w.components)
+
+-- answer i of a list is the answer to event i, in the world that the events before it leave; there
+-- is an answer to each event, and no other
 abbrev pub AnswersAreOfTheirWorlds : Type 0
 AnswersAreOfTheirWorlds =
-    (w : World) (events : List Event) (i : ℕ) (reply : Answer)
-    → slice_get (event_answers w events) i ≡ Some reply
-    → IsAnsweredAt w events i reply
+    (w : World) (events : List Event) (i : ℕ)
+    → slice_get (event_answers w events) i
+    ≡ option_map (answer_to (final_world w (take i events))) (slice_get events i)
 
 -- event k of a list removed the entity
 pub record IsRemoved (w : World) (events : List Event) (k entity : ℕ) : Type 0 where
@@ -82,6 +138,20 @@ SpawnedAreRemovedBetween =
     → slice_get (event_answers w events) i ≡ Some (Spawned entity)
     → slice_get (event_answers w events) j ≡ Some (Spawned entity)
     → (k : ℕ) × (i < k) × (k < j) × IsRemoved w events k entity
+
+-- event k of a list spawned the entity, and no later event removed it
+pub record LivesFrom (w : World) (events : List Event) (entity k : ℕ) : Type 0 where
+  pub spawned : slice_get (event_answers w events) k ≡ Some (Spawned entity)
+  pub not_removed : (j : ℕ) → k < j → slice_get events j ≢ Some (Remove entity)
+
+-- an entity is alive after a list of events exactly if it was alive before and no event removes it,
+-- or an event spawns it and no later event removes it
+abbrev pub LivingAreThoseKept : Type 0
+LivingAreThoseKept =
+    (w : World) (events : List Event) (entity : ℕ)
+    → ((final_world w events).alive.has entity ≡ true)
+    ↔ (((w.alive.has entity ≡ true) × ((j : ℕ) → slice_get events j ≢ Some (Remove entity)))
+    ⊎ ((k : ℕ) × LivesFrom w events entity k))
 
 -- event k of a list gave the entity the component, and no later event removed the entity or took
 -- the component away

@@ -4,9 +4,11 @@
 //! The laws also speak of `matching`, the set that the call `matching` returns.
 
 ghost use Rattle.bit_entities.specs.EntityLaws.{WorldsStayWorlds, DeadHaveNothing, SpawnedAreNew};
-ghost use Rattle.bit_entities.specs.EntityLaws.{FullExactlyIfAllAreAlive, RefusedChangesNothing};
+ghost use Rattle.bit_entities.specs.EntityLaws.{SpawnedExactlyIfLeast, FullExactlyIfAllAreAlive};
+ghost use Rattle.bit_entities.specs.EntityLaws.{DoneExactlyIfPossible, RefusedChangesNothing};
+ghost use Rattle.bit_entities.specs.EntityLaws.{OthersAreUnchanged, OtherComponentsStay, SizesStay};
 ghost use Rattle.bit_entities.specs.EntityLaws.{AnswersAreOfTheirWorlds, SpawnedAreRemovedBetween};
-ghost use Rattle.bit_entities.specs.EntityLaws.{LivingAreRemovedFirst};
+ghost use Rattle.bit_entities.specs.EntityLaws.{LivingAreRemovedFirst, LivingAreThoseKept};
 ghost use Rattle.bit_entities.specs.EntityLaws.{ComponentsAreThoseKept, QueriesVisitEachOnce};
 
 /// States that a world stays as `IsWorld` says after any list of events. So if no dead entity has a
@@ -20,6 +22,12 @@ pub fn dead_have_nothing()
     ensures { DeadHaveNothing }
 {}
 
+/// States that an event spawns an entity exactly if the event is a spawn, and the entity is the
+/// least number that is not alive.
+pub fn spawned_exactly_if_least()
+    ensures { SpawnedExactlyIfLeast }
+{}
+
 /// States that a spawned entity is the least number that was not alive. It has no component,
 /// whatever it had in a former life.
 pub fn spawned_are_new()
@@ -31,13 +39,38 @@ pub fn full_exactly_if_all_are_alive()
     ensures { FullExactlyIfAllAreAlive }
 {}
 
+/// States that a removal is answered by `Done` exactly if the entity is alive. A component is given
+/// or taken, and the event is answered by `Done`, exactly if the entity is alive and there is such a
+/// component. Else the answer is `Refused`.
+pub fn done_exactly_if_possible()
+    ensures { DoneExactlyIfPossible }
+{}
+
 /// States that an event that is answered by `Refused` or `Full` changes nothing.
 pub fn refused_changes_nothing()
     ensures { RefusedChangesNothing }
 {}
 
+/// States that an event changes no entity but the one that it names or spawns: the others live on
+/// or stay dead, and keep their components.
+pub fn others_are_unchanged()
+    ensures { OthersAreUnchanged }
+{}
+
+/// States that an event that gives or takes a component changes no other component of any entity,
+/// and that it ends and begins no life.
+pub fn other_components_stay()
+    ensures { OtherComponentsStay }
+{}
+
+/// States that no event changes how many numbers and how many components there are.
+pub fn sizes_stay()
+    ensures { SizesStay }
+{}
+
 /// States that in every list, answer `i` is the answer to event `i` in the world that the earlier
-/// events leave. So what holds of one answer in any world holds of each answer of the list.
+/// events leave, and that there are as many answers as events. So what holds of one answer in any
+/// world holds of each answer of the list.
 pub fn answers_are_of_their_worlds()
     ensures { AnswersAreOfTheirWorlds }
 {}
@@ -51,6 +84,12 @@ pub fn living_are_removed_first()
 /// States that a number which is spawned again was removed since it was last spawned.
 pub fn spawned_are_removed_between()
     ensures { SpawnedAreRemovedBetween }
+{}
+
+/// States that an entity is alive after a list of events exactly if it was alive before and the
+/// list does not remove it, or the list spawns it and does not remove it afterwards.
+pub fn living_are_those_kept()
+    ensures { LivingAreThoseKept }
 {}
 
 /// States that an entity that lacks a component has the component after a list of events exactly if
