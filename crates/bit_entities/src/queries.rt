@@ -24,14 +24,14 @@ impl<B: BitsOwned, const N: usize> World<B, N> {
     {
         let mut mask = self.alive;
         for i in 0..required.len() {
-            mask = self.having(mask, required[i]);
+            mask = self.those_having(mask, required[i]);
         }
         mask
     }
 
     // Returns the mask of those entities of `mask` that have the component. The result is empty if
     // there is no such component.
-    fn having(&self, mask: B, component: u32) -> B
+    fn those_having(&self, mask: B, component: u32) -> B
         ensures { EndsAtCapacity (set_in B.Shape B.Order.Endian mask) →
             set_in B.Shape B.Order.Endian result ≡ having
             (world_of N (set_in B.Shape B.Order.Endian) self.now.alive self.now.components)

@@ -11,7 +11,7 @@ loop-i-preserved g c =
     let so_far = c.loop-i.invariant.mask in
     let inside : c.loop-i.i < length c.args.required.now = omega arith in
     record {
-      mask = c.having-mask.ensures
+      mask = c.those_having-mask.ensures
           (subst EndsAtCapacity (sym so_far) (matching_ends w _ c.args.self.now.sound))
           ∙ ap (λ s. having w s (get_or c.args.required.now c.loop-i.i 0)) so_far
           ∙ matching_more w c.args.required.now c.loop-i.i 0 inside;

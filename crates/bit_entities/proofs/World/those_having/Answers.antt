@@ -4,7 +4,7 @@ use Rattle.bittle.specs.PlainSet.{PlainSet}
 use Rattle.bittle.specs.Values.{set_in}
 use Rattle.bit_entities.specs.Entities.{World, world_of, is_in}
 use Rattle.bit_entities.proofs.Matches.{kept_by_mask, kept_by_none}
-use Rattle.bit_entities.proofs.World.having.Goals as goal
+use Rattle.bit_entities.proofs.World.those_having.Goals as goal
 
 pub returns-in-Some : goal.returns-in-Some
 returns-in-Some g c ends =
