@@ -1,6 +1,6 @@
 -- What a change of a world, or an event, leaves as it was.
 use Rattle.std.proofs.Common.{◌≡◌, ◌≢◌, ℕ, ◌⊎◌, Bool, true, false, cond, ◌&&◌, ◌==◌, Option, Some, None, inl, inr, refl, sym, ap, ◌∙◌, subst}
-use Rattle.std.proofs.lemmas.Bool.{ne_eqb}
+use Rattle.std.proofs.lemmas.Bool.{eq-eqb, ne_eqb}
 use Rattle.bittle.specs.PlainSet.{PlainSet}
 use Rattle.bit_entities.specs.Entities.{World, least_dead, may_have, with_number, without_entity, with_component, spawned_or_full, with_spawned, answer_to, world_after}
 use Rattle.bit_entities.specs.EntityLaws.{names, IsUnchanged}
@@ -23,6 +23,12 @@ pub other_keeps : (w t : World) (entity : ℕ) → t ≡ without_entity w entity
     k ≢ entity → t.has k c ≡ w.has k c
 other_keeps w t entity e k c apart =
     ap (λ u. u.has k c) e ∙ ap (λ b. cond b false (w.has k c)) (ne_eqb k entity apart)
+
+-- a removed entity has no component
+pub keeps_nothing : (w t : World) (entity : ℕ) → t ≡ without_entity w entity → (c : ℕ) →
+    t.has entity c ≡ false
+keeps_nothing w t entity e c =
+    ap (λ u. u.has entity c) e ∙ ap (λ b. cond b false (w.has entity c)) (eq-eqb entity entity refl)
 
 -- a change of a component of one entity changes no other entity, and no other component
 module _ (w t : World) (entity component : ℕ) (is : Bool)

@@ -2,8 +2,8 @@
 //! component.
 //!
 //! An entity is a number below the capacity of the masks, and a component is a number below `N`. An
-//! entity is alive from its spawn to its removal, and only a living one has components: a number
-//! that is spawned again has no component of its former life.
+//! entity is alive from its spawn, or from the start by `with_alive`, to its removal. Only a living
+//! one has components: a number that is spawned again has no component of its former life.
 //!
 //! ```rust
 //! use bit_entities::World;
@@ -24,8 +24,9 @@
 //! ```
 #![tactic(auto)]
 
-ghost use Rattle.std.specs.Prelude.{◌≡◌, ◌≢◌, ◌<◌, ◌≤◌, ℕ, length, true, false, IfSome, IsTrue};
-ghost use Rattle.std.specs.Prelude.{Some, if◌then◌else◌};
+ghost use Rattle.std.specs.Option.{is_some};
+ghost use Rattle.std.specs.Prelude.{◌≡◌, ◌≢◌, ◌<◌, ◌≤◌, ◌+◌, ℕ, length, true, false, IfSome, IsTrue};
+ghost use Rattle.std.specs.Prelude.{Some, cond, if◌then◌else◌};
 ghost use Rattle.bittle.specs.PlainSet.{complement, size};
 ghost use Rattle.bittle.specs.Searches.{IsFirstIn};
 ghost use Rattle.bittle.specs.Shapes.{Fits};
@@ -99,8 +100,9 @@ impl<B: BitsOwned, const N: usize> World<B, N> {
     /// `World::<u64, 2>::with_alive(0b1011)` has the entities 0, 1 and 3.
     pub fn with_alive(alive: B) -> World<B, N>
         requires { IsTrue B.indexable }
-        ensures { world_of N (set_in B.Shape B.Order.Endian) result.alive result.components
+        ensures world { world_of N (set_in B.Shape B.Order.Endian) result.alive result.components
             ≡ bare_world (set_in B.Shape B.Order.Endian alive) N }
+        ensures alive { result.alive ≡ alive }
     {
         World {
             alive,
@@ -108,7 +110,7 @@ impl<B: BitsOwned, const N: usize> World<B, N> {
         }
     }
 
-    /// Returns whether an entity is alive. A number past the capacity is not alive.
+    /// Returns whether an entity is alive. A number at or past the capacity is not alive.
     pub fn is_alive(&self, entity: u32) -> bool
         ensures value { let world = world_of N (set_in B.Shape B.Order.Endian) self.now.alive
             self.now.components in result ≡ world.alive.has entity }
@@ -147,6 +149,9 @@ impl<B: BitsOwned, const N: usize> World<B, N> {
         ensures value { let world = world_of N (set_in B.Shape B.Order.Endian) self.now.alive
             self.now.components in result ≡ world.has entity component }
         ensures below { IsTrue result → entity < B.type_capacity }
+        ensures there { IsTrue result → component < N }
+        ensures lives { let world = world_of N (set_in B.Shape B.Order.Endian) self.now.alive
+            self.now.components in IsTrue result → world.alive.has entity ≡ true }
     {
         match self.components.get(component as usize) {
             Some(mask) => entity < B::bits() && mask.test_bit(entity),
@@ -174,6 +179,8 @@ impl<B: BitsOwned, const N: usize> World<B, N> {
             → (set_in B.Shape B.Order.Endian self.new.alive).has other
             ≡ (set_in B.Shape B.Order.Endian self.old.alive).has other }
         ensures components { self.new.components ≡ self.old.components }
+        ensures count { size (set_in B.Shape B.Order.Endian self.new.alive)
+            ≡ size (set_in B.Shape B.Order.Endian self.old.alive) + cond (is_some result) 1 0 }
         ensures world { world_of N (set_in B.Shape B.Order.Endian) self.new.alive
             self.new.components ≡ world_after (world_of N (set_in B.Shape B.Order.Endian)
             self.old.alive self.old.components) Event.Spawn }
@@ -190,6 +197,11 @@ impl<B: BitsOwned, const N: usize> World<B, N> {
             self.old.components in result ≡ before.alive.has entity }
         ensures gone { let after = world_of N (set_in B.Shape B.Order.Endian) self.new.alive
             self.new.components in after.alive.has entity ≡ false }
+        ensures bare { let after = world_of N (set_in B.Shape B.Order.Endian) self.new.alive
+            self.new.components in (component : ℕ) → after.has entity component ≡ false }
+        ensures below { IsTrue result → entity < B.type_capacity }
+        ensures count { size (set_in B.Shape B.Order.Endian self.old.alive)
+            ≡ size (set_in B.Shape B.Order.Endian self.new.alive) + cond result 1 0 }
         ensures others { (other : ℕ) → other ≢ entity
             → (set_in B.Shape B.Order.Endian self.new.alive).has other
             ≡ (set_in B.Shape B.Order.Endian self.old.alive).has other }
@@ -215,8 +227,10 @@ impl<B: BitsOwned, const N: usize> World<B, N> {
 
     // Returns whether the entity is alive, and there is such a component.
     fn may_have(&self, entity: u32, component: u32) -> bool
-        ensures { result ≡ may_have (world_of N (set_in B.Shape B.Order.Endian) self.now.alive
+        ensures value { result ≡ may_have (world_of N (set_in B.Shape B.Order.Endian) self.now.alive
             self.now.components) entity component }
+        ensures below { IsTrue result → entity < B.type_capacity }
+        ensures there { IsTrue result → component < N }
     {
         (component as usize) < N && self.is_alive(entity)
     }
@@ -227,6 +241,8 @@ impl<B: BitsOwned, const N: usize> World<B, N> {
     pub fn attach(&mut self, entity: u32, component: u32) -> bool
         ensures done { result ≡ may_have (world_of N (set_in B.Shape B.Order.Endian)
             self.old.alive self.old.components) entity component }
+        ensures below { IsTrue result → entity < B.type_capacity }
+        ensures there { IsTrue result → component < N }
         ensures has { let after = world_of N (set_in B.Shape B.Order.Endian) self.new.alive
             self.new.components in result ≡ true → after.has entity component ≡ true }
         ensures living { self.new.alive ≡ self.old.alive }
@@ -259,6 +275,8 @@ impl<B: BitsOwned, const N: usize> World<B, N> {
     pub fn detach(&mut self, entity: u32, component: u32) -> bool
         ensures done { result ≡ may_have (world_of N (set_in B.Shape B.Order.Endian)
             self.old.alive self.old.components) entity component }
+        ensures below { IsTrue result → entity < B.type_capacity }
+        ensures there { IsTrue result → component < N }
         ensures lacks { let after = world_of N (set_in B.Shape B.Order.Endian) self.new.alive
             self.new.components in after.has entity component ≡ false }
         ensures living { self.new.alive ≡ self.old.alive }

@@ -55,8 +55,8 @@ pub fn step<B: BitsOwned, const N: usize>(
     movers.count_ones()
 }
 
-/// Moves an entity if it has a place and a speed. Others stay where they are. A number past the
-/// capacity is no entity, and may be past the end of both tables.
+/// Moves an entity if it has a place and a speed. Others stay where they are. A number at or past
+/// the capacity is no entity, and may be past the end of both tables.
 pub fn step_one<B: BitsOwned, const N: usize>(
     world: &World<B, N>,
     places: &mut [i32],
@@ -160,6 +160,84 @@ pub fn remove_and_ask<B: BitsOwned, const N: usize>(
 {
     world.remove(entity);
     world.is_alive(entity) || world.has(entity, component)
+}
+
+/// Spawns an entity and removes it. Returns how many entities are alive before and afterwards: as
+/// many, also if no number is free.
+pub fn spawn_and_remove<B: BitsOwned, const N: usize>(world: &mut World<B, N>) -> (u32, u32)
+    ensures { result.0 ≡ result.1 }
+{
+    let before = world.len();
+    match world.spawn() {
+        Some(entity) => {
+            world.remove(entity);
+            (before, world.len())
+        }
+        None => (before, world.len()),
+    }
+}
+
+/// Gives an entity the place `place`, and returns `true`; returns `false` if the entity is not alive.
+/// The check proves that the entity is an index of the table.
+pub fn put<B: BitsOwned>(
+    world: &mut World<B, 2>,
+    places: &mut [i32],
+    entity: u32,
+    place: i32,
+) -> bool
+    requires { B.type_capacity ≤ length places.old }
+    ensures { length places.new ≡ length places.old }
+{
+    if !world.attach(entity, PLACE) {
+        return false;
+    }
+    places[entity as usize] = place;
+    true
+}
+
+/// Removes an entity and forgets its place, unless it is not alive. The check proves that the
+/// entity is an index of the table.
+pub fn remove_placed<B: BitsOwned>(world: &mut World<B, 2>, places: &mut [i32], entity: u32)
+    requires { B.type_capacity ≤ length places.old }
+    ensures { length places.new ≡ length places.old }
+{
+    if world.remove(entity) {
+        places[entity as usize] = 0;
+    }
+}
+
+/// Returns the name of a component if the entity has this component. The table `names` has a name
+/// for each component. The check proves that the component is an index of the table.
+pub fn name_if_had<B: BitsOwned>(
+    world: &World<B, 3>,
+    names: &[u32; 3],
+    entity: u32,
+    component: u32,
+) -> Option<u32> {
+    if world.has(entity, component) {
+        Some(names[component as usize])
+    } else {
+        None
+    }
+}
+
+/// Returns whether an entity has a component and is not alive. The result is always `false`.
+pub fn has_dead<B: BitsOwned, const N: usize>(
+    world: &World<B, N>,
+    entity: u32,
+    component: u32,
+) -> bool
+    ensures { result ≡ false }
+{
+    world.has(entity, component) && !world.is_alive(entity)
+}
+
+/// Makes a world of a mask, and returns the mask that the world lends: the same.
+pub fn lent_back(alive: u64) -> u64
+    ensures { result ≡ alive }
+{
+    let world = World::<u64, 2>::with_alive(alive);
+    *world.alive()
 }
 
 /// Spawns an entity, and returns whether `other`, which was alive before, still is. The result is

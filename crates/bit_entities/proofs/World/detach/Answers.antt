@@ -22,7 +22,7 @@ detached g c =
     let mask = get_or masks c.args.component c.index-self-component.result in
     let capacity = g.met.B.FixedCapacity.one_capacity mask in
     let all = g.met.B.FixedCapacity.one_capacity c.args.self.now.alive in
-    let may = may_parts w c.args.entity c.args.component (sym c.may_have.ensures ∙ cc) in
+    let may = may_parts w c.args.entity c.args.component (sym c.may_have.ensures.value ∙ cc) in
     let inside : c.args.component < length masks = omega (arith, may.0) in
     let below = c.args.self.now.sound.living_are_below c.args.entity may.1 in
     row_changed g.row.N (set_in g.B.Shape g.B.Order.Endian) c.args.self.now.alive masks
@@ -34,7 +34,7 @@ pub invariant_of-self-clause-sound : goal.invariant_of-self-clause-sound
 invariant_of-self-clause-sound g c =
     let w : World = world_of g.row.N (set_in g.B.Shape g.B.Order.Endian) c.args.self.now.alive
     c.args.self.now.components in
-    let may = may_parts w c.args.entity c.args.component (sym c.may_have.ensures ∙ cc) in
+    let may = may_parts w c.args.entity c.args.component (sym c.may_have.ensures.value ∙ cc) in
     subst IsWorld (sym (detached g (goal.at.invariant_of-self-clause-sound g c).After-clear_bit))
     (having_is_world w c.args.entity c.args.component false c.args.self.now.sound may.0 may.1)
 
@@ -43,7 +43,7 @@ returns-clause-world g c =
     let w : World = world_of g.row.N (set_in g.B.Shape g.B.Order.Endian) c.args.self.now.alive
     c.args.self.now.components in
     let may : may_have w c.args.entity c.args.component
-    ≡ true = sym c.may_have.ensures ∙ cc in
+    ≡ true = sym c.may_have.ensures.value ∙ cc in
     detached g (goal.at.returns-clause-world g c).After-clear_bit
     ∙ ap (λ b. cond b (with_component w c.args.entity c.args.component false) w) (sym may)
 

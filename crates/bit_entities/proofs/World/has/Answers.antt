@@ -20,3 +20,8 @@ returns-then-entity-bits-clause-value g c =
 pub returns-in-None-clause-value : goal.returns-in-None-clause-value
 returns-in-None-clause-value g c = ap (λ o. is_in (set_in g.B.Shape g.B.Order.Endian) o c.args.entity)
     (sym (slice_get_past c.args.self.now.components c.args.component c.in-None.ensures.lookup.3))
+
+pub returns-then-entity-bits-clause-lives : goal.returns-then-entity-bits-clause-lives
+returns-then-entity-bits-clause-lives g c has =
+    c.args.self.now.sound.dead_have_nothing c.args.entity c.args.component
+    (sym (returns-then-entity-bits-clause-value g c) ∙ has)

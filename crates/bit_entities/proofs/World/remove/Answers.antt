@@ -1,9 +1,11 @@
 use Rattle.std.proofs.Common.{◌≡◌, ◌+◌, ◌<◌, true, false, cond, get_or, set, length, sym, ap, ◌∙◌, subst, arith}
 use Rattle.std.proofs.lemmas.Option.{slice_get-get_or}
+use Rattle.bittle.specs.PlainSet.{PlainSet, size}
 use Rattle.bittle.specs.Values.{set_in}
+use Rattle.bittle.proofs.CallerChanges.{size_without}
 use Rattle.bit_entities.specs.Entities.{World, IsWorld, world_of, with_component, without_first, without_entity}
 use Rattle.bit_entities.proofs.Masks.{taken_out, number_now, row_changed, one_more_lost}
-use Rattle.bit_entities.proofs.Others.{other_lives, other_keeps}
+use Rattle.bit_entities.proofs.Others.{keeps_nothing, other_lives, other_keeps}
 use Rattle.bit_entities.proofs.Worlds.{losing_is_world, going_is_world, all_lost}
 use Rattle.bit_entities.proofs.World.remove.Given.{Over}
 use Rattle.bit_entities.proofs.World.remove.Goals.{After-clear_bit, After-clear_bit-2}
@@ -99,3 +101,24 @@ returns-clause-components g c =
     let w : World = world_of g.row.N (set_in g.B.Shape g.B.Order.Endian) c.args.self.now.alive
     c.args.self.now.components in
     other_keeps w _ c.args.entity (gone g (goal.at.returns-clause-components g c).After-clear_bit-2)
+
+pub returns-clause-bare : goal.returns-clause-bare
+returns-clause-bare g c component =
+    let w : World = world_of g.row.N (set_in g.B.Shape g.B.Order.Endian) c.args.self.now.alive
+    c.args.self.now.components in
+    keeps_nothing w _ c.args.entity (gone g (goal.at.returns-clause-bare g c).After-clear_bit-2)
+    component
+
+pub returns-clause-count : goal.returns-clause-count
+returns-clause-count g c =
+    let w : World = world_of g.row.N (set_in g.B.Shape g.B.Order.Endian) c.args.self.now.alive
+    c.args.self.now.components in
+    let entity = c.args.entity in
+    let now : PlainSet = set_in g.B.Shape g.B.Order.Endian c.loop-component.self.alive in
+    let same : now ≡ w.alive = ap (λ t. t.alive) c.loop-component.invariant.lost in
+    let lives : w.alive.has entity ≡ true = sym c.is_alive.ensures.value ∙ cc in
+    let within = c.args.self.now.sound.living_are_below entity lives in
+    let capacity = ap (λ t. t.capacity) same in
+    ap size (sym same)
+    ∙ size_without now entity (omega (arith, capacity, within)) (ap (λ t. t.has entity) same ∙ lives)
+    ∙ sym (ap (λ t. size t + 1) c.clear_bit-2.ensures.set)

@@ -1,6 +1,7 @@
 use Rattle.std.proofs.Common.{◌<◌, true, Some, None, sym, ap, ◌∙◌, subst, arith}
-use Rattle.bittle.specs.PlainSet.{PlainSet, complement}
+use Rattle.bittle.specs.PlainSet.{PlainSet, complement, size}
 use Rattle.bittle.specs.Values.{set_in}
+use Rattle.bittle.proofs.CallerChanges.{size_with}
 use Rattle.bit_entities.specs.Entities.{World, IsWorld, world_of, with_spawned}
 use Rattle.bit_entities.proofs.LeastDead.{first_listed, outside}
 use Rattle.bit_entities.proofs.Masks.{put_in, number_now}
@@ -81,3 +82,10 @@ returns-clause-others g c other apart =
     let below = outside alive entity c.in_ok-entity.ensures.2 in
     number_other alive entity true _ (c.set_bit.ensures.set ∙ put_in alive entity below.0) other
     (λ same. apart (ap Some (sym same)))
+
+pub returns-clause-count : goal.returns-clause-count
+returns-clause-count g c =
+    let alive : PlainSet = set_in g.B.Shape g.B.Order.Endian c.args.self.now.alive in
+    let entity = c.in_ok-entity.entity in
+    let found = outside alive entity c.in_ok-entity.ensures.2 in
+    ap size c.set_bit.ensures.set ∙ size_with alive entity found.0 found.1

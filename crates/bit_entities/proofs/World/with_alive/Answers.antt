@@ -6,8 +6,8 @@ use Rattle.bit_entities.specs.Entities.{IsWorld}
 use Rattle.bit_entities.proofs.Worlds.{bare_is, bare_is_world}
 use Rattle.bit_entities.proofs.World.with_alive.Goals as goal
 
-pub returns : goal.returns
-returns g c =
+pub returns-clause-world : goal.returns-clause-world
+returns-clause-world g c =
     bare_is g.row.N (set_in g.B.Shape g.B.Order.Endian) c.args.alive c.zeros.result
     (λ k. ap (λ s. s.has k) (c.zeros.ensures.in_each_order g.B.Order.Endian.mirrored))
 
