@@ -55,6 +55,21 @@ matching_more w required i d h = λ j. record {
     by true b c = refl
     by false b c = refl
 
+-- the mask of a component has the living entities that have this component
+pub mask_matches : (w : World) (component : ℕ) (s : PlainSet) → IsWorld w →
+    s.capacity ≡ w.alive.capacity → ((k : ℕ) → s.has k ≡ w.has k component) →
+    s ≡ matching w (component ∷ [])
+mask_matches w component s is same has = λ i. record { capacity = same i; has = λ k. each k i }
+  where
+    by : (a b : Bool) → (b ≡ true → a ≡ true) → b ≡ (a && (b && true))
+    by true true lives = refl
+    by true false lives = refl
+    by false true lives = absurd (true≢false (sym (lives refl)))
+    by false false lives = refl
+
+    each : (k : ℕ) → s.has k ≡ (w.alive.has k && (w.has k component && true))
+    each k = has k ∙ by (w.alive.has k) (w.has k component) (is.dead_have_nothing k component)
+
 -- no number past the capacity matches
 pub matching_ends : (w : World) (required : List ℕ) → IsWorld w →
     EndsAtCapacity (matching w required)

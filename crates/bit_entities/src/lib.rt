@@ -26,7 +26,7 @@
 
 ghost use Rattle.std.specs.Option.{is_some};
 ghost use Rattle.std.specs.Prelude.{◌≡◌, ◌≢◌, ◌<◌, ◌≤◌, ◌+◌, ℕ, length, true, false, IfSome, IsTrue};
-ghost use Rattle.std.specs.Prelude.{Some, cond, if◌then◌else◌};
+ghost use Rattle.std.specs.Prelude.{Some, ◌==◌, cond, if◌then◌else◌};
 ghost use Rattle.bittle.specs.PlainSet.{complement, size};
 ghost use Rattle.bittle.specs.Searches.{IsFirstIn};
 ghost use Rattle.bittle.specs.Shapes.{Fits};
@@ -134,6 +134,13 @@ impl<B: BitsOwned, const N: usize> World<B, N> {
         ensures at_most { result ≤ B.type_capacity }
     {
         self.alive.count_ones()
+    }
+
+    /// Returns whether no entity is alive: whether [`alive`](World::alive) has no set bit.
+    pub fn is_empty(&self) -> bool
+        ensures { result ≡ (size (set_in B.Shape B.Order.Endian self.now.alive) == 0) }
+    {
+        self.alive.all_zeros()
     }
 
     /// Returns how many entities can be alive at once: the capacity of `B`.

@@ -1,7 +1,7 @@
 //! Which entities have components.
 
 ghost use Rattle.std.specs.List.{list_all};
-ghost use Rattle.std.specs.Prelude.{◌≡◌, ◌<◌, ℕ, false, IfSome, MatchOption};
+ghost use Rattle.std.specs.Prelude.{◌≡◌, ◌<◌, ◌≤◌, ℕ, false, [], ◌∷◌, IfSome, MatchOption};
 ghost use Rattle.bittle.specs.Searches.{IsFirstIn};
 ghost use Rattle.bittle.specs.Values.{set_in, ShapeFits};
 ghost use Rattle.bit_entities.specs.Entities.{world_of, EndsAtCapacity, matching, having};
@@ -27,6 +27,19 @@ impl<B: BitsOwned, const N: usize> World<B, N> {
             mask = self.those_having(mask, required[i]);
         }
         mask
+    }
+
+    /// Lends the mask of the entities that have a component, or returns `None` if there is no such
+    /// component. The world cannot change meanwhile; `matching(&[component])` returns a copy.
+    pub fn having(&self, component: u32) -> Option<&B>
+        ensures mask { IfSome result (λ mask. set_in B.Shape B.Order.Endian mask.now ≡ matching
+            (world_of N (set_in B.Shape B.Order.Endian) self.now.alive self.now.components)
+            (component ∷ [])) }
+        ensures fits { IfSome result (λ mask. ShapeFits B.Shape mask.now) }
+        ensures there { MatchOption result (N ≤ component) (λ mask. component < N) }
+    {
+        let mask = self.components.get(component as usize)?;
+        Some(mask)
     }
 
     // Returns the mask of those entities of `mask` that have the component. The result is empty if

@@ -1,6 +1,7 @@
 //! Callers of entities with components.
 
 ghost use Rattle.std.specs.Prelude.{◌≡◌, ◌≢◌, ◌<◌, ◌≤◌, ℕ, length, false, true, [], ◌∷◌, IfSome};
+ghost use Rattle.std.specs.Prelude.{MatchOption};
 ghost use Rattle.std.specs.Int.{int_wrapping_add, w32};
 ghost use Rattle.std.specs.Prelude.{Some, ℤ};
 ghost use Rattle.std.specs.Prelude.{option_map, slice_get, slice_index, Option};
@@ -305,6 +306,28 @@ pub fn how_many_live<B: BitsOwned, const N: usize>(world: &World<B, N>) -> u32
     ensures { result ≡ size (set_in B.Shape B.Order.Endian world.now.alive) }
 {
     world.alive().count_ones()
+}
+
+/// Counts the entities that have a component by the mask that the world lends. Returns `None` if
+/// there is no such component.
+pub fn how_many_have<B: BitsOwned, const N: usize>(
+    world: &World<B, N>,
+    component: u32,
+) -> Option<u32>
+    ensures { let all = world_of N (set_in B.Shape B.Order.Endian) world.now.alive
+        world.now.components in
+        MatchOption result (N ≤ component) (λ many. many ≡ size (matching all (component ∷ []))) }
+{
+    let mask = world.having(component)?;
+    Some(mask.count_ones())
+}
+
+/// Removes an entity from a world in which no entity is alive, and returns whether it was alive. The
+/// result is always `false`, also if the world is not empty: then nothing is removed.
+pub fn remove_from_none<B: BitsOwned, const N: usize>(world: &mut World<B, N>, entity: u32) -> bool
+    ensures { result ≡ false }
+{
+    world.is_empty() && world.len() > 0 && world.remove(entity)
 }
 
 /// Returns the name of the first entity that has a speed, or `None` if no entity has one. The table

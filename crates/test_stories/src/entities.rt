@@ -271,3 +271,19 @@ fn a_world_of_those_of_a_mask(rt: HostRuntime) {
     holds!(rt; other.is_alive(0) && !other.is_alive(7));
     same!(rt; World::<[u8; 0], 1>::with_alive([]).spawn(), None);
 }
+
+// Returns a copy of the mask that the world lends.
+fn lent(world: &World<u8, 2>, component: u32) -> Option<u8> {
+    let mask = world.having(component)?;
+    Some(*mask)
+}
+
+#[test]
+fn a_lent_mask_and_an_empty_world(rt: HostRuntime) {
+    let mut world = World::<u8, 2>::new();
+    holds!(rt; world.is_empty());
+    same!(rt; (world.spawn(), world.spawn()), (Some(0), Some(1)));
+    holds!(rt; !world.is_empty() && world.attach(1, 1));
+    same!(rt; (lent(&world, 0), lent(&world, 1), lent(&world, 2)), (Some(0), Some(0b10), None));
+    holds!(rt; world.remove(0) && !world.is_empty() && world.remove(1) && world.is_empty());
+}
