@@ -1,5 +1,5 @@
-//! The texts of the events, requests, answers and errors of queues and roles, and of a key. Also
-//! texts that are cut off.
+//! The texts of the events, requests, answers and errors of queues, roles and entities, and of a
+//! key. Also texts that are cut off.
 
 use crate::checks::{holds, same};
 use bit_queue::{Event, NoTask};
@@ -65,6 +65,44 @@ fn a_key_is_named_with_its_slot_and_generation(rt: HostRuntime) -> Result<(), Fa
     let mut slots = Slots::<u64, u8>::over(row.as_mut_slice());
     let key = slots.insert(10).expect(&rt, "slot 1 is free");
     reads(&rt, rt.alloc(), &key, "Key { slot: 1, generation: 70 }")?;
+    Ok(())
+}
+
+#[test]
+fn events_of_entities_are_named_with_their_numbers(rt: HostRuntime) -> Result<(), Fail> {
+    reads(&rt, rt.alloc(), &bit_entities::Event::Spawn, "Spawn")?;
+    reads(
+        &rt,
+        rt.alloc(),
+        &bit_entities::Event::Remove(4_000),
+        "Remove(4000)",
+    )?;
+    reads(
+        &rt,
+        rt.alloc(),
+        &bit_entities::Event::Attach(7, 1),
+        "Attach(7, 1)",
+    )?;
+    reads(
+        &rt,
+        rt.alloc(),
+        &bit_entities::Event::Detach(0, 12),
+        "Detach(0, 12)",
+    )?;
+    Ok(())
+}
+
+#[test]
+fn answers_of_entities_are_named(rt: HostRuntime) -> Result<(), Fail> {
+    reads(
+        &rt,
+        rt.alloc(),
+        &bit_entities::Answer::Spawned(63),
+        "Spawned(63)",
+    )?;
+    reads(&rt, rt.alloc(), &bit_entities::Answer::Full, "Full")?;
+    reads(&rt, rt.alloc(), &bit_entities::Answer::Done, "Done")?;
+    reads(&rt, rt.alloc(), &bit_entities::Answer::Refused, "Refused")?;
     Ok(())
 }
 
