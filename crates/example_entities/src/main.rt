@@ -4,8 +4,7 @@
 //! Nearly all entities are alive, so each mask has a summary of its unset bits: a spawn finds a
 //! free number in a few steps. What is proved is what `bit_entities` promises. A new entity was not
 //! alive, and has no component. A removed entity has no component. A number past the world is no
-//! entity. A query for components yields each entity that has them exactly once, so a step moves it
-//! once.
+//! entity. A query for components yields each entity that has them exactly once.
 #![tactic(auto)]
 
 ghost use Rattle.std.specs.Prelude.{◌≡◌, ◌∷◌, [], ◌≤◌, length, IsTrue};
