@@ -1,2 +1,3 @@
+pub mod CallHistories
 pub mod Entities
 pub mod EntityLaws

@@ -1,7 +1,9 @@
 //! Callers of entities with components.
 
 ghost use Rattle.std.specs.Prelude.{◌≡◌, ◌≢◌, ◌<◌, ◌≤◌, ℕ, length, false, true, [], ◌∷◌, IfSome};
-ghost use Rattle.std.specs.Prelude.{MatchOption};
+ghost use Rattle.std.specs.Prelude.{MatchOption, if◌then◌else◌};
+ghost use Rattle.bit_entities.specs.CallHistories.{IsHistory};
+ghost use Rattle.bit_entities.specs.Entities.{spawned_or_full};
 ghost use Rattle.std.specs.Int.{int_wrapping_add, w32};
 ghost use Rattle.std.specs.Prelude.{Some, ℤ};
 ghost use Rattle.std.specs.Prelude.{option_map, slice_get, slice_index, Option};
@@ -161,6 +163,34 @@ pub fn remove_and_ask<B: BitsOwned, const N: usize>(
 {
     world.remove(entity);
     world.is_alive(entity) || world.has(entity, component)
+}
+
+/// Spawns an entity, and gives `entity` a place. Returns what the calls return. The clause says that
+/// the two calls, with what they return, are a history of calls: each law of lists of events holds
+/// of them.
+pub fn spawn_and_give<B: BitsOwned>(world: &mut World<B, 2>, entity: u32) -> (Option<u32>, bool)
+    ensures { IsHistory (world_of 2 (set_in B.Shape B.Order.Endian) world.old.alive
+        world.old.components) ((Event.Spawn, spawned_or_full result.0)
+        ∷ (Event.Attach entity 0, if result.1 then Answer.Done else Answer.Refused) ∷ [])
+        (world_of 2 (set_in B.Shape B.Order.Endian) world.new.alive world.new.components) }
+{
+    let spawned = world.spawn();
+    let given = world.attach(entity, PLACE);
+    (spawned, given)
+}
+
+/// Takes the place from `entity`, and then removes the entity. Returns what the calls return. The
+/// clause says that the two calls are a history of calls, as that of [`spawn_and_give`].
+pub fn take_and_remove<B: BitsOwned>(world: &mut World<B, 2>, entity: u32) -> (bool, bool)
+    ensures { IsHistory (world_of 2 (set_in B.Shape B.Order.Endian) world.old.alive
+        world.old.components)
+        ((Event.Detach entity 0, if result.0 then Answer.Done else Answer.Refused)
+        ∷ (Event.Remove entity, if result.1 then Answer.Done else Answer.Refused) ∷ [])
+        (world_of 2 (set_in B.Shape B.Order.Endian) world.new.alive world.new.components) }
+{
+    let taken = world.detach(entity, PLACE);
+    let removed = world.remove(entity);
+    (taken, removed)
 }
 
 /// Spawns an entity and removes it. Returns how many entities are alive before and afterwards: as
