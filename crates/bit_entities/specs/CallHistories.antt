@@ -17,8 +17,8 @@ IsHistory before (call ∷ calls) after =
 
 -- the calls of a history give the machine's answers to the list of their events, and leave the
 -- machine's last world
-abbrev pub HistoriesAreRuns : Type 0
-HistoriesAreRuns =
+abbrev pub CallsAnswerAsLists : Type 0
+CallsAnswerAsLists =
     (before after : World) (calls : List (Event × Answer)) → IsHistory before calls after
     → (map (λ call. call.1) calls ≡ event_answers before (map (λ call. call.0) calls))
     × (after ≡ final_world before (map (λ call. call.0) calls))

@@ -21,16 +21,16 @@ module _ {S : Type 0} (answer : S → Event → Answer) (after_event : S → Eve
 
 -- the calls of a history of a priority queue give the machine's answers to the list of their
 -- events, and leave the machine's last state
-abbrev pub HistoriesAreRuns : Type 0
-HistoriesAreRuns =
+abbrev pub CallsAnswerAsLists : Type 0
+CallsAnswerAsLists =
     (before after : PlainSet) (calls : List (Event × Answer))
     → IsHistory answer_to state_after before calls after
     → (map (λ call. call.1) calls ≡ event_answers before (map (λ call. call.0) calls))
     × (after ≡ final_state before (map (λ call. call.0) calls))
 
 -- the same of the calls of a history of a round robin
-abbrev pub HistoriesAreRunsInTurn : Type 0
-HistoriesAreRunsInTurn =
+abbrev pub CallsAnswerAsListsInTurn : Type 0
+CallsAnswerAsListsInTurn =
     (before after : Round) (calls : List (Event × Answer))
     → IsHistory answer_in_turn round_after before calls after
     → (map (λ call. call.1) calls ≡ answers_in_turn before (map (λ call. call.0) calls))

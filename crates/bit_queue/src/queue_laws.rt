@@ -3,7 +3,7 @@
 //! contract of `serve` states that `serve` answers as this machine does, and leaves the machine's
 //! last state.
 
-ghost use Rattle.bit_queue.specs.CallHistories.{HistoriesAreRuns};
+ghost use Rattle.bit_queue.specs.CallHistories.{CallsAnswerAsLists};
 ghost use Rattle.bit_queue.specs.QueueLaws.{MostUrgentRuns, IdleExactlyIfNoneIsReady};
 ghost use Rattle.bit_queue.specs.QueueLaws.{AnswersAreOfTheirStates, RestingTasksAreWokenFirst};
 ghost use Rattle.bit_queue.specs.QueueLaws.{NoTaskExactlyIfThereIsNone, ReadyAreThoseNotRun};
@@ -58,6 +58,6 @@ pub fn tasks_run_in_time()
 /// States that calls of `wake` and `next` in any sequence answer as the machine does on the list of
 /// their events. This follows from what the clauses of each call say of its answer and of the ready
 /// tasks. So each law of lists of events holds for such calls too.
-pub fn histories_are_runs()
-    ensures { HistoriesAreRuns }
+pub fn calls_answer_as_lists()
+    ensures { CallsAnswerAsLists }
 {}

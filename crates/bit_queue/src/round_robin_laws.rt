@@ -3,7 +3,7 @@
 //! contract of `serve` states that `serve` answers as this machine does, and leaves the machine's
 //! last state.
 
-ghost use Rattle.bit_queue.specs.CallHistories.{HistoriesAreRunsInTurn};
+ghost use Rattle.bit_queue.specs.CallHistories.{CallsAnswerAsListsInTurn};
 ghost use Rattle.bit_queue.specs.RoundRobinLaws.{NextInTurnRuns, RoundIsIdleExactlyIfNoneIsReady};
 ghost use Rattle.bit_queue.specs.RoundRobinLaws.{AnswersAreOfTheirRounds};
 ghost use Rattle.bit_queue.specs.RoundRobinLaws.{RoundHasNoTaskExactlyIfThereIsNone};
@@ -73,6 +73,6 @@ pub fn tasks_run_within_as_many_steps()
 /// States that calls of `wake` and `next` in any sequence answer as the machine does on the list of
 /// their events. This follows from what the clauses of each call say of its answer and of the
 /// round. So each law of lists of events holds for such calls too.
-pub fn histories_are_runs()
-    ensures { HistoriesAreRunsInTurn }
+pub fn calls_answer_as_lists()
+    ensures { CallsAnswerAsListsInTurn }
 {}

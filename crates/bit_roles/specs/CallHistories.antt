@@ -18,8 +18,8 @@ IsHistory before (call ∷ calls) after =
 
 -- the calls of a history give the machine's answers to the list of their requests, and leave the
 -- machine's last state
-abbrev pub HistoriesAreRuns : Type 0
-HistoriesAreRuns =
+abbrev pub CallsAnswerAsLists : Type 0
+CallsAnswerAsLists =
     (before after : Roles) (calls : List (Request × Answer)) → IsHistory before calls after
     → (map (λ call. call.1) calls ≡ request_answers before (map (λ call. call.0) calls))
     × (after ≡ final_roles before (map (λ call. call.0) calls))

@@ -3,7 +3,7 @@
 //! `serve` states that `serve` answers as this machine does, and leaves the machine's last state.
 //! The laws also speak of `Allows`, which the contract of `allows` uses.
 
-ghost use Rattle.bit_roles.specs.CallHistories.{HistoriesAreRuns};
+ghost use Rattle.bit_roles.specs.CallHistories.{CallsAnswerAsLists};
 ghost use Rattle.bit_roles.specs.RoleLaws.{DoneExactlyIfPossible, RefusedChangesNothing};
 ghost use Rattle.bit_roles.specs.RoleLaws.{AnswersAreOfTheirStates, AllowsOwnAndParents};
 ghost use Rattle.bit_roles.specs.RoleLaws.{NumbersStay, NothingIsAllowedAtFirst};
@@ -102,6 +102,6 @@ pub fn no_chain_comes_back()
 /// States that calls of `grant` and `inherit` in any sequence answer as the machine does on the list
 /// of their requests. This follows from what the clauses of each call say of its answer and of the
 /// roles. So each law of lists of requests holds for such calls too.
-pub fn histories_are_runs()
-    ensures { HistoriesAreRuns }
+pub fn calls_answer_as_lists()
+    ensures { CallsAnswerAsLists }
 {}

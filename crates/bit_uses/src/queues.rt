@@ -221,6 +221,6 @@ pub fn tasks_are_woken_between_calls()
         → IsHistory answer_to state_after before calls after
         → IsWokenBetween (map (λ call. call.0) calls) (map (λ call. call.1) calls) task }
 {
-    queue_laws::histories_are_runs();
+    queue_laws::calls_answer_as_lists();
     queue_laws::tasks_are_woken_between();
 }
