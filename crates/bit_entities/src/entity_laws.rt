@@ -41,8 +41,8 @@ pub fn full_exactly_if_all_are_alive()
 {}
 
 /// States that a removal is answered by `Done` exactly if the entity is alive. A component is given
-/// or taken, and the event is answered by `Done`, exactly if the entity is alive and there is such a
-/// component. Else the answer is `Refused`.
+/// or taken, and the event is answered by `Done`, exactly if the entity is alive and there is such
+/// a component. Else the answer is `Refused`.
 pub fn done_exactly_if_possible()
     ensures { DoneExactlyIfPossible }
 {}

@@ -2,7 +2,8 @@
 #![tactic(auto)]
 
 ghost use Rattle.std.specs.Option.{is_some};
-ghost use Rattle.std.specs.Prelude.{◌≡◌, ◌≢◌, ℕ, ◌+◌, ◌-◌, ◌<◌, ◌≤◌, ◌↔◌, cond, length, true, false};
+ghost use Rattle.std.specs.Prelude.{◌≡◌, ◌≢◌, ℕ, ◌+◌, ◌-◌, ◌<◌, ◌≤◌, ◌↔◌, cond, length, true};
+ghost use Rattle.std.specs.Prelude.{false};
 ghost use Rattle.std.specs.Prelude.{IfSome, IsTrue, IsOk, MatchOption, Some, is_ok};
 ghost use Rattle.bittle.specs.Comparison.{AreSame};
 ghost use Rattle.bittle.specs.PlainSet.{complement, empty_set, size, with_span, without_span};
@@ -10,7 +11,8 @@ ghost use Rattle.bittle.specs.Searches.{NoneIn};
 ghost use Rattle.bittle.specs.Shapes.{Fits};
 ghost use Rattle.bittle.specs.Values.{set_in};
 ghost use Rattle.bit_pages.specs.PageLaws.{IsLeastFree};
-ghost use Rattle.bit_pages.specs.Pages.{is_taken, is_free_page, least_free, with_page, answer_to, state_after};
+ghost use Rattle.bit_pages.specs.Pages.{is_taken, is_free_page, least_free, with_page, answer_to};
+ghost use Rattle.bit_pages.specs.Pages.{state_after};
 ghost use Rattle.bit_pages.specs.Pages.{first_free_run, is_run_taken, request_answers, final_state};
 ghost use Rattle.bittle_ext.specs.Runs.{IsFirstRun, IsRun};
 

@@ -3,11 +3,14 @@
 //! contract of `serve` states that `serve` answers as this machine does, and leaves the machine's
 //! last state.
 
-ghost use Rattle.bit_pages.specs.PageLaws.{PagesAreFree, FullExactlyIfAllAreTaken, NotFreeExactlyIfNotFree};
-ghost use Rattle.bit_pages.specs.PageLaws.{RunsAreFirst, NoRunExactlyIfNoneIsFree, GivenExactlyIfTaken};
+ghost use Rattle.bit_pages.specs.PageLaws.{PagesAreFree, FullExactlyIfAllAreTaken};
+ghost use Rattle.bit_pages.specs.PageLaws.{NotFreeExactlyIfNotFree};
+ghost use Rattle.bit_pages.specs.PageLaws.{RunsAreFirst, NoRunExactlyIfNoneIsFree};
+ghost use Rattle.bit_pages.specs.PageLaws.{GivenExactlyIfTaken};
 ghost use Rattle.bit_pages.specs.PageLaws.{PagesComeBackBetween, TakenPagesComeBackFirst};
 ghost use Rattle.bit_pages.specs.CallHistories.{CallsAnswerAsLists};
-ghost use Rattle.bit_pages.specs.PageLaws.{AnswersAreOfTheirStates, PagesAreCounted, PagesAreOutstanding};
+ghost use Rattle.bit_pages.specs.PageLaws.{AnswersAreOfTheirStates, PagesAreCounted};
+ghost use Rattle.bit_pages.specs.PageLaws.{PagesAreOutstanding};
 
 /// States that a page is answered exactly if any page is asked for and this page is the least free
 /// one, or if this page is asked for and free.
@@ -43,7 +46,8 @@ pub fn given_exactly_if_taken()
 {}
 
 /// States that in every list, request `i` is answered in the state that the earlier requests leave,
-/// and that there is no other answer. So what holds of one answer in any state holds of each answer of the list.
+/// and that there is no other answer. So what holds of one answer in any state holds of each answer
+/// of the list.
 pub fn answers_are_of_their_states()
     ensures { AnswersAreOfTheirStates }
 {}
@@ -75,9 +79,9 @@ pub fn pages_are_outstanding()
 {}
 
 /// States that calls of `take`, `take_at`, `give_back`, `take_run` and `give_back_run` in any
-/// sequence answer as the machine does on the list of their requests. This follows from what the clauses of each
-/// call say of its answer and of the pages. So each law of lists of requests holds for such calls
-/// too.
+/// sequence answer as the machine does on the list of their requests. This follows from what the
+/// clauses of each call say of its answer and of the pages. So each law of lists of requests holds
+/// for such calls too.
 pub fn calls_answer_as_lists()
     ensures { CallsAnswerAsLists }
 {}

@@ -143,8 +143,8 @@ impl<B: BitsOwned, const N: usize> Roles<B, N> {
         Ok(())
     }
 
-    /// Gives a role a parent, in place of any parent that it had. Afterwards the role allows what it
-    /// was granted and what the new parent allows; it loses what only the old parent allowed. If
+    /// Gives a role a parent, in place of any parent that it had. Afterwards the role allows what
+    /// it was granted and what the new parent allows; it loses what only the old parent allowed. If
     /// there is no such role, or `parent` is not less than `role`, the call changes nothing and
     /// returns `Err`.
     pub fn inherit(&mut self, role: u32, parent: u32) -> Result<(), Refused>

@@ -70,8 +70,8 @@ pub fn inherits_what_the_parent_allowed()
     ensures { InheritsWhatTheParentAllowed }
 {}
 
-/// States that an `Inherit` changes only what its role allows, and what the roles allow from which a
-/// chain of parents leads to it.
+/// States that an `Inherit` changes only what its role allows, and what the roles allow from which
+/// a chain of parents leads to it.
 pub fn inheriting_changes_only_descendants()
     ensures { InheritingChangesOnlyDescendants }
 {}
@@ -99,9 +99,9 @@ pub fn no_chain_comes_back()
     ensures { NoChainComesBack }
 {}
 
-/// States that calls of `grant` and `inherit` in any sequence answer as the machine does on the list
-/// of their requests. This follows from what the clauses of each call say of its answer and of the
-/// roles. So each law of lists of requests holds for such calls too.
+/// States that calls of `grant` and `inherit` in any sequence answer as the machine does on the
+/// list of their requests. This follows from what the clauses of each call say of its answer and of
+/// the roles. So each law of lists of requests holds for such calls too.
 pub fn calls_answer_as_lists()
     ensures { CallsAnswerAsLists }
 {}

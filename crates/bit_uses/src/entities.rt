@@ -165,9 +165,9 @@ pub fn remove_and_ask<B: BitsOwned, const N: usize>(
     world.is_alive(entity) || world.has(entity, component)
 }
 
-/// Spawns an entity, and gives `entity` a place. Returns what the calls return. The clause says that
-/// the two calls, with what they return, are a history of calls: each law of lists of events holds
-/// of them.
+/// Spawns an entity, and gives `entity` a place. Returns what the calls return. The clause says
+/// that the two calls, with what they return, are a history of calls: each law of lists of events
+/// holds of them.
 pub fn spawn_and_give<B: BitsOwned>(world: &mut World<B, 2>, entity: u32) -> (Option<u32>, bool)
     ensures { IsHistory (world_of 2 (set_in B.Shape B.Order.Endian) world.old.alive
         world.old.components) ((Event.Spawn, spawned_or_full result.0)
@@ -208,8 +208,8 @@ pub fn spawn_and_remove<B: BitsOwned, const N: usize>(world: &mut World<B, N>) -
     }
 }
 
-/// Gives an entity the place `place`, and returns `true`; returns `false` if the entity is not alive.
-/// The check proves that the entity is an index of the table.
+/// Gives an entity the place `place`, and returns `true`; returns `false` if the entity is not
+/// alive. The check proves that the entity is an index of the table.
 pub fn put<B: BitsOwned>(
     world: &mut World<B, 2>,
     places: &mut [i32],
@@ -352,8 +352,8 @@ pub fn how_many_have<B: BitsOwned, const N: usize>(
     Some(mask.count_ones())
 }
 
-/// Removes an entity from a world in which no entity is alive, and returns whether it was alive. The
-/// result is always `false`, also if the world is not empty: then nothing is removed.
+/// Removes an entity from a world in which no entity is alive, and returns whether it was alive.
+/// The result is always `false`, also if the world is not empty: then nothing is removed.
 pub fn remove_from_none<B: BitsOwned, const N: usize>(world: &mut World<B, N>, entity: u32) -> bool
     ensures { result ≡ false }
 {

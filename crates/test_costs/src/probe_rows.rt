@@ -1,8 +1,8 @@
 //! Rows of twelve words that count the calls made to them, and checks of what one call costs.
 //!
 //! The measured calls are written for any set, so each is proved once. The tests make them on the
-//! rows of `measure_rows`, `read_rows` and `change_rows`. Most tests use `few`: its members 451 and 508 lie in
-//! word 7.
+//! rows of `measure_rows`, `read_rows` and `change_rows`. Most tests use `few`: its members 451 and
+//! 508 lie in word 7.
 
 ghost use Rattle.std.specs.Prelude.{◌*◌, ◌≤◌, length, IsTrue};
 ghost use Rattle.bittle.specs.Shapes.{Fits};
