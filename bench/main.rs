@@ -344,7 +344,10 @@ impl<'a> Cell<'a> {
             _ => {}
         }
         let capacity = n as u64 * 64;
-        let loops = matches!(call.name, "insert" | "remove" | "toggle");
+        let loops = matches!(
+            call.name,
+            "insert" | "remove" | "toggle" | "try_insert" | "contains_index"
+        );
         let indexes = if loops { 4096 } else { 0 };
         let ranges = if loops { 1 } else { 64 };
         let range = |state: &mut u64| {
