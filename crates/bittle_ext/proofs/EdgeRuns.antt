@@ -1,4 +1,4 @@
--- The runs of a set begin and end, by turns, at the edges of the set.
+-- The runs of a set begin and end, alternately, at the edges of the set.
 use Rattle.std.proofs.Common.{◌≡◌, ℕ, zero, suc, ◌+◌, ◌<◌, Bool, true, false, not, IsTrue, MatchBool, ◌⊎◌, List, [], ◌∷◌, ◌++◌, inl, inr, refl, sym, ap, ◌∙◌, subst, arith}
 use Rattle.std.proofs.lemmas.Bool.{cases_Bool, ne_eqb, eq-eqb, true≢false}
 use mathlib.Core.Bool.{beq}
@@ -7,7 +7,7 @@ use Rattle.bittle.specs.PlainSet.{PlainSet, ascending, ascending_from}
 use Rattle.bittle.specs.SetOperations.{just_one}
 use Rattle.bittle.specs.Walk.{ones_or_zeros}
 use Rattle.bittle.proofs.CallerSets.{complement_within}
-use Rattle.bittle_ext.specs.Edges.{changes_until, paired, AreByTurns, IsEven}
+use Rattle.bittle_ext.specs.Edges.{changes_until, paired, Alternate, IsEven}
 use Rattle.bittle_ext.specs.Runs.{joined, run, runs, runs_between, runs_from}
 use Rattle.bittle_ext.proofs.MaximalRuns.{AreMaximal, runs_maximal}
 use Rattle.bittle_ext.proofs.RotatedSets.{up-before, up-inside}
@@ -33,10 +33,10 @@ module _ (s : PlainSet) (c : ℕ) (end : c ≡ s.capacity) where
   begun_earlier k [] = rw (eq-eqb (suc k) (suc k) refl) refl
   begun_earlier k (e ∷ xs) = rw (eq-eqb (suc k) (suc k) refl) refl
 
-  turns_earlier : (k : ℕ) (xs : List ℕ) → k < c → has k ≡ true → AreByTurns s (suc k ∷ xs) →
-      AreByTurns s (k ∷ xs)
-  turns_earlier k [] l here h = (omega (arith, l, end), here)
-  turns_earlier k (e ∷ xs) l here h = (omega (arith, l, end), here, h.2, h.3, h.4)
+  alternates_earlier : (k : ℕ) (xs : List ℕ) → k < c → has k ≡ true → Alternate s (suc k ∷ xs) →
+      Alternate s (k ∷ xs)
+  alternates_earlier k [] l here h = (omega (arith, l, end), here)
+  alternates_earlier k (e ∷ xs) l here h = (omega (arith, l, end), here, h.2, h.3, h.4)
 
   -- a run of one number joins no run that begins later
   alone : (k to : ℕ) (rs : List (Range ℕ)) → AreMaximal has (suc (suc k)) to rs →
@@ -45,9 +45,9 @@ module _ (s : PlainSet) (c : ℕ) (end : c ≡ s.capacity) where
   alone k to [] h = refl
   alone k to (r ∷ rs) h = rw (ne_eqb r.start (suc k) (λ e. absurd (omega (arith, e, h.0)))) refl
 
-  -- the list has the edges of the runs, and these are members by turns
+  -- the list has the edges of the runs, and these are members and no members alternately
   abbrev Pairs : List ℕ → List (Range ℕ) → Type 0
-  Pairs xs rs = (paired c xs ≡ rs) × AreByTurns s xs
+  Pairs xs rs = (paired c xs ≡ rs) × Alternate s xs
 
   module _ (edge : ℕ → Bool)
       (edge_is : (k : ℕ) → k < c → edge k ≡ just_one (has k) (before k)) where
@@ -76,7 +76,7 @@ module _ (s : PlainSet) (c : ℕ) (end : c ≡ s.capacity) where
             let next = edge_is (suc k) (omega (arith, at)) ∙ (λ i. just_one (on i) (here i)) in
             rw (on, next) (
               begun_earlier k (ascending_from edge (suc (suc k)) n) ∙ ap (joined k) rest.0,
-              turns_earlier k (ascending_from edge (suc (suc k)) n) (omega (arith, at)) here rest.1,
+              alternates_earlier k (ascending_from edge (suc (suc k)) n) (omega (arith, at)) here rest.1,
             )
         | inr off ↦
             let rest = (pairs n).0 (suc (suc k)) (omega (arith, at)) off in
@@ -97,8 +97,8 @@ module _ (s : PlainSet) (c : ℕ) (end : c ≡ s.capacity) where
       ((pairs (changes_until c s).has change_is c).0 0 (omega arith) refl).0
       ∙ ap (runs_from has 0) (omega (arith, end))
 
-  pub edges_by_turns : AreByTurns s (ascending (changes_until c s))
-  edges_by_turns = ((pairs (changes_until c s).has change_is c).0 0 (omega arith) refl).1
+  pub edges_alternate : Alternate s (ascending (changes_until c s))
+  edges_alternate = ((pairs (changes_until c s).has change_is c).0 0 (omega arith) refl).1
 
 -- ---- lists of edges that are taken from the back
 
@@ -130,9 +130,9 @@ pub record IsLastEdge (s : PlainSet) (xs : List ℕ) (last : ℕ) : Type 0 where
   pub below : last < s.capacity
   pub begins : s.has last ≡ true → IsEven xs
   pub ends : s.has last ≡ false → IsEven (xs ++ last ∷ [])
-  pub rest : AreByTurns s xs
+  pub rest : Alternate s xs
 
-at_end : (s : PlainSet) (xs : List ℕ) (last : ℕ) → AreByTurns s (xs ++ last ∷ []) →
+at_end : (s : PlainSet) (xs : List ℕ) (last : ℕ) → Alternate s (xs ++ last ∷ []) →
     IsLastEdge s xs last
 at_end s [] last h = record {
   below = h.0;
@@ -156,9 +156,9 @@ at_end s (a ∷ b ∷ xs) last h =
 
 -- an item was taken from the back of a list of edges
 module _ (s : PlainSet) (to : ℕ) (old xs : List ℕ) (last : ℕ) (took : old ≡ xs ++ last ∷ [])
-    (turns : AreByTurns s old) where
+    (alternate : Alternate s old) where
   pub last_edge : IsLastEdge s xs last
-  last_edge = at_end s xs last (subst (AreByTurns s) took turns)
+  last_edge = at_end s xs last (subst (Alternate s) took alternate)
 
   -- it is the start of a run that is open
   pub open_run : s.has last ≡ true → paired to old ≡ paired to xs ++ run last to ∷ []
@@ -185,8 +185,8 @@ module _ (s : PlainSet) (to : ℕ) (old xs : List ℕ) (last : ℕ) (took : old 
       pub closed_run : paired to old ≡ paired to ys ++ run start last ∷ []
       closed_run = ap (paired to) both ∙ paired_closed to ys start last still_even
 
-      pub rest_by_turns : AreByTurns s ys
-      rest_by_turns = (at_end s ys start (subst (AreByTurns s) more last_edge.rest)).rest
+      pub rest_alternates : Alternate s ys
+      rest_alternates = (at_end s ys start (subst (Alternate s) more last_edge.rest)).rest
 
 -- whether a bit has a value tells whether it is of a kind
 pub of_kind : (ones : Bool) (s : PlainSet) (i : ℕ) → i < s.capacity → (b : Bool) → b ≡ s.has i →

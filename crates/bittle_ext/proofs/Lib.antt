@@ -30,6 +30,7 @@ mod ReversedBits
 mod RetainedWords
 mod RotatedSets
 mod RotatedSizes
+mod RotatedWords
 pub mod RunCounts
 mod ShiftedWords
 mod WholeWords
@@ -38,7 +39,6 @@ mod WordsReplaced
 pub mod RunFacts
 mod RunLists
 mod ShortRuns
-mod TurnedSets
 pub mod UnsetSpans
 pub mod SetFacts
 mod ViewFacts

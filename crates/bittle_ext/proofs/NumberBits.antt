@@ -58,19 +58,19 @@ number_is s first (suc n) d fits bits =
 -- r has the 128 bits of a number reversed; shifted down by 128 - w, it has the w lowest bits of the
 -- number reversed
 module _ (w bits r : ℕ) (word : 0 < w) (small : w ≤ 128)
-    (turned : (i : ℕ) → i < 128 → bit_at r i ≡ bit_at bits (127 - i)) where
-  pub turned_fits : r < 2 ^ 128 → r / 2 ^ (128 - w) < 2 ^ w
-  turned_fits fits =
+    (mirrored : (i : ℕ) → i < 128 → bit_at r i ≡ bit_at bits (127 - i)) where
+  pub ordered_fits : r < 2 ^ 128 → r / 2 ^ (128 - w) < 2 ^ w
+  ordered_fits fits =
       let parts : w + (128 - w) ≡ 128 = omega (arith, small) in
       shr_lt w (128 - w) (omega (arith, fits, ap (λ k. 2 ^ k) parts))
 
-  pub turned_set : bit_set w (r / 2 ^ (128 - w)) ≡ read_in true w (bit_set w bits)
-  turned_set = ap (plain_set w) (fun_ext λ i. elim (cases_lt i w) [
+  pub ordered_set : bit_set w (r / 2 ^ (128 - w)) ≡ read_in true w (bit_set w bits)
+  ordered_set = ap (plain_set w) (fun_ext λ i. elim (cases_lt i w) [
     | inl l ↦
         let e : 127 - (i + (128 - w)) ≡ w - 1 - i = omega (arith, small, l) in
         bit_has-at w (r / 2 ^ (128 - w)) i l
         ∙ ap (λ b. b == 1) (bit_at_shifted r (128 - w) i
-        ∙ turned (i + (128 - w)) (omega (arith, l, small)) ∙ ap (bit_at bits) e)
+        ∙ mirrored (i + (128 - w)) (omega (arith, l, small)) ∙ ap (bit_at bits) e)
         ∙ sym (ap (bit_has w bits) (mirror_in_word w i l)
         ∙ bit_has-at w bits (w - 1 - i) (omega (arith, word)))
     | inr g ↦

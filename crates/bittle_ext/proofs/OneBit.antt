@@ -82,9 +82,9 @@ flipped_keeps true b = and-true b
 flipped_keeps false b = or-false b
 
 -- a bit of the kind becomes one of the other kind
-pub flipped_turns : (ones b : Bool) → flipped ones b true ≡ not ones
-flipped_turns true b = and_right b false refl
-flipped_turns false b = or-true b
+pub flipped_changes : (ones b : Bool) → flipped ones b true ≡ not ones
+flipped_changes true b = and_right b false refl
+flipped_changes false b = or-true b
 
 -- a word without its least bit is that word with the place of this bit taken out
 taken_alone : (w j : ℕ) (p q : ℕ → Bool) → IsPopped w j p q → (o : ℕ) → o < w →

@@ -17,8 +17,8 @@ use Rattle.bittle_ext.proofs.Windows.{bit_at_masked, bit_at_shifted}
 -- the bits of word k, as a number, are those of the set from the start of the word on
 pub bits_of_whole : (m : Bool) (w k p x : ℕ) (s : PlainSet) → 0 < w → bit_set w p ≡ word_of w s k →
     bit_set w x ≡ read_in m w (bit_set w p) → HasBitsOf (read_in m w s) (k * w) w x
-bits_of_whole m w k p x s word ours turned i h =
-    sym (bit_has-at w x i h) ∙ ap (λ (u : PlainSet). u.has i) turned
+bits_of_whole m w k p x s word ours ordered i h =
+    sym (bit_has-at w x i h) ∙ ap (λ (u : PlainSet). u.has i) ordered
     ∙ digit_at m w k s p word ours i h
 
 -- the number of set bits among the lowest `half` bits is the number of members in that range

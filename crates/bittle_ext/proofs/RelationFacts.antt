@@ -49,9 +49,9 @@ module _ {v : Bool} {s t : PlainSet} {from end ours : ℕ} (at : IsNext v s t fr
     (theirs : ℕ) where
   -- if the second set has no bit of the kind in ours..theirs, `first_and` holds of no number below
   -- `theirs`
-  pub turned : theirs ≤ end → NoneIn (ones_or_zeros v t) ours theirs →
+  pub swapped : theirs ≤ end → NoneIn (ones_or_zeros v t) ours theirs →
       NoneDecidedBelow (first_and v) s t theirs
-  turned up none i h =
+  swapped up none i h =
       elim (cases_lt i ours) [
         | inl l ↦ further v s t from ours at.before at.first.3 i l
         | inr g ↦

@@ -102,13 +102,13 @@ pub record IsHalfway (w k : ℕ) (kept rest : ℕ → Bool) (s t : PlainSet) (fr
 pub halfway_none : (m : Bool) (w k d r x : ℕ) (s : PlainSet) → 0 < w → d ≡ 0 →
     bit_set w r ≡ word_of w s k → bit_set w x ≡ read_in m w (bit_set w r) →
     IsHalfway w k (bit_set w d).has (bit_set w x).has (read_in m w s) (read_in m w s) (k * w)
-halfway_none m w k d r x s word none is turned =
+halfway_none m w k d r x s word none is ordered =
     let empty : (o : ℕ) → (bit_set w d).has o ≡ false = λ o. ap (λ p. p o) (bit_has-zero w d none) in
     record {
       capacity = refl;
       begins = omega arith;
       ends = omega arith;
-      here = λ o h. sym (digit_at m w k s r word is o h) ∙ sym (ap (λ (u : PlainSet). u.has o) turned)
+      here = λ o h. sym (digit_at m w k s r word is o h) ∙ sym (ap (λ (u : PlainSet). u.has o) ordered)
           ∙ sym (ap (λ b. b || (bit_set w x).has o) (empty o));
       others = λ i n. refl;
       kept_below = λ o h l. empty o;
@@ -218,12 +218,12 @@ pub halfway_all : (m : Bool) (w k d r from : ℕ) (rest : ℕ → Bool) (s after
     IsHalfway w k (bit_set w d).has rest (read_in m w s) t from →
     ((o : ℕ) → o < w → rest o ≡ false) → ReplacesWord w s k (bit_set w r) after →
     read_in m w (bit_set w r) ≡ bit_set w d → t ≡ read_in m w after
-halfway_all m w k d r from rest s after t word whole past also so_far none is turned =
+halfway_all m w k d r from rest s after t word whole past also so_far none is ordered =
     let each : (i : ℕ) → t.has i ≡ (read_in m w after).has i = λ i. elim (cases_eq (i / w) k) [
       | inl e ↦ ap t.has (sym (place_in w k i e))
           ∙ kept_all w k _ rest (read_in m w s) t from word so_far none (i % w) (mod_below i w word)
           ∙ sym (in_word m w k r s after word whole past also is i e
-          ∙ ap (λ (u : PlainSet). u.has (i % w)) turned)
+          ∙ ap (λ (u : PlainSet). u.has (i % w)) ordered)
       | inr n ↦ so_far.others i n ∙ sym (in_others m w k r s after word whole past also is i n)
     ] in
     λ j. plain_set ((so_far.capacity ∙ sym is.capacity) j) (λ i. each i j)

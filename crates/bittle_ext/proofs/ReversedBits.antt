@@ -135,7 +135,7 @@ module _ (c d mask x y z : ℕ) (some : 0 < d) (parts : c * (2 * d) ≡ 128)
       ]
 
 -- the seven swaps reverse all 128 bits
-pub turned_round : (x a b c d e f z : ℕ) →
+pub reversed_round : (x a b c d e f z : ℕ) →
     Swapped 1 113427455640312821154458202477256070485 x a →
     Swapped 2 68056473384187692692674921486353642291 a b →
     Swapped 4 20016609818878733144904388672456953615 b c →
@@ -145,7 +145,7 @@ pub turned_round : (x a b c d e f z : ℕ) →
     Swapped 64 18446744073709551615 f z →
     (i : ℕ) → i < 128 → bit_at z i ≡ bit_at x (127 - i)
 unfolding all_below
-turned_round x a b c d e f z s1 s2 s4 s8 s16 s32 s64 i h =
+reversed_round x a b c d e f z s1 s2 s4 s8 s16 s32 s64 i h =
     let m0 : AreMirrored 1 x x = λ j l. ap (bit_at x) (sym (mirror_is 1 j (omega arith)
     ∙ omega (arith, div-add-mod' j 1, mod_below j 1 (omega arith)))) in
     let m1 = mirrored_more 64 1 113427455640312821154458202477256070485 x x a (omega arith) (omega arith) refl s1 m0 in

@@ -114,12 +114,12 @@ rotated-past s by k h = rw (le-ltb k s.capacity h) refl
 
 -- a word read from index `from` of word `at` on is word k of the rotated set, if word `at` is
 -- `skipped` words above, and may wrap
-pub turned_word : (m : Bool) (w c words skipped from by k at d : ℕ) (s : PlainSet) →
+pub rotated_word : (m : Bool) (w c words skipped from by k at d : ℕ) (s : PlainSet) →
     IsDistance w c (by % c) words skipped from → c ≡ s.capacity → k < words →
     (at ≡ k + skipped) ⊎ (at + words ≡ k + skipped) →
     IsWordFrom w s (at * w + from) (read_in m w (bit_set w d)) → (i : ℕ) → i < w →
     (read_in m w (bit_set w d)).has i ≡ has_rotated s by (k * w + i)
-turned_word m w c words skipped from by k at d s far same low where_is here i h =
+rotated_word m w c words skipped from by k at d s far same low where_is here i h =
     let up : (k + 1) * w ≤ words * w = mul-le-mul_right w (omega (arith, low)) in
     here i h ∙ contains_as s (at * w + from + i) (k * w + i + by)
     (rw (← same) (wrapped_at w c words by skipped from k at far.whole far.parts where_is i))
@@ -152,10 +152,10 @@ rotated_to s by i =
     elim (cases_eq c 0) [
       | inl none ↦ contains_none (rotated_up s by) (i + by) none ∙ sym (contains_none s i none)
       | inr some ↦
-          let turns : i + by + back ≡ i + (by / c + 1) * c =
+          let rounds : i + by + back ≡ i + (by / c + 1) * c =
           omega (arith, div-add-mod' by c, mod_below by c (omega arith)) in
           rotated_from s back (i + by)
-          ∙ contains_as s (i + by + back) i (ap (λ n. n % c) turns
+          ∙ contains_as s (i + by + back) i (ap (λ n. n % c) rounds
           ∙ add-mul-mod_self_right i (by / c + 1) c)
     ]
 

@@ -7,7 +7,7 @@ use Rattle.bittle_bits.proofs.Counts.{count-add, count-none, count-same}
 use Rattle.bittle.proofs.CallerSets.{contains_within}
 use Rattle.bittle_ext.specs.Rotations.{has_rotated, rotated_down, rotated_up}
 use Rattle.bittle_ext.proofs.RotatedSets.{contains_past, rotated-below}
-use Rattle.bittle_ext.proofs.TurnedSets.{rotated_wrapped}
+use Rattle.bittle_ext.proofs.RotatedWords.{rotated_wrapped}
 
 -- after a rotation by at most the capacity, the members from `by` on come first, and then those
 -- below it

@@ -18,20 +18,20 @@ changes_until c s = decided_until just_one c s (shifted_up s 1)
 abbrev pub edges : Bool → PlainSet → PlainSet
 edges ones s = changes_until s.capacity (ones_or_zeros ones s)
 
--- the runs that begin and end, by turns, at the numbers of a list; if the last run has no end in
+-- the runs that begin and end, alternately, at the numbers of a list; if the last run has no end in
 -- the list, it ends at `to`
 unfoldable pub paired : ℕ → List ℕ → List (Range ℕ)
 paired to [] = []
 paired to (start ∷ []) = run start to ∷ []
 paired to (start ∷ end ∷ xs) = run start end ∷ paired to xs
 
--- the numbers of the list are below the capacity, and are members and no members by turns; the
+-- the numbers of the list are below the capacity, and are members and no members alternately; the
 -- first is a member
-abbrev pub AreByTurns : PlainSet → List ℕ → Type 0
-AreByTurns s [] = ⊤
-AreByTurns s (start ∷ []) = (start < s.capacity) × (s.has start ≡ true)
-AreByTurns s (start ∷ end ∷ xs) = (start < s.capacity) × (s.has start ≡ true)
-    × (end < s.capacity) × (s.has end ≡ false) × AreByTurns s xs
+abbrev pub Alternate : PlainSet → List ℕ → Type 0
+Alternate s [] = ⊤
+Alternate s (start ∷ []) = (start < s.capacity) × (s.has start ≡ true)
+Alternate s (start ∷ end ∷ xs) = (start < s.capacity) × (s.has start ≡ true)
+    × (end < s.capacity) × (s.has end ≡ false) × Alternate s xs
 
 -- the list has an even number of items
 abbrev pub IsEven : List ℕ → Type 0

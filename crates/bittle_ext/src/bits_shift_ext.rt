@@ -5,7 +5,7 @@ ghost use Rattle.bittle_ext.specs.Rotations.{rotated_down, rotated_up, shifted_d
 ghost use Rattle.bittle.specs.PlainSet.{contains, size};
 ghost use Rattle.bittle.specs.Values.{set_in, ShapeFits};
 
-use crate::{shifts, turns};
+use crate::{in_place_rotations, shifts};
 use bittle::BitsMut;
 
 /// Moves of all bits of any set that can be changed, such as a mutably borrowed slice. No copy is
@@ -89,7 +89,7 @@ pub trait BitsShiftExt: BitsMut {
             ≡ size (set_in Self.Shape Self.Order.Endian self.old) }
         ensures stays { Self.loan self.old ≡ Self.loan self.new }
     {
-        turns::turn_down::<Self, Self::Order>(self, by);
+        in_place_rotations::rotate_down::<Self, Self::Order>(self, by);
     }
 
     /// Moves each bit up by `by` indexes. A bit that would pass the last index goes on at index 0.
@@ -114,7 +114,7 @@ pub trait BitsShiftExt: BitsMut {
             ≡ size (set_in Self.Shape Self.Order.Endian self.old) }
         ensures stays { Self.loan self.old ≡ Self.loan self.new }
     {
-        turns::turn_up::<Self, Self::Order>(self, by);
+        in_place_rotations::rotate_up::<Self, Self::Order>(self, by);
     }
 }
 

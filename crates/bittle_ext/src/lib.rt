@@ -56,6 +56,7 @@ mod capacities;
 mod combinations;
 mod copies;
 mod counts;
+mod in_place_rotations;
 mod inserted;
 mod numbers;
 mod one_bit;
@@ -75,7 +76,6 @@ mod select;
 mod shifts;
 mod short_runs;
 mod spans;
-mod turns;
 pub mod views;
 
 pub use binary_text::BitsTextExt;

@@ -74,23 +74,16 @@ pub fn number_of<W: Word, E: Endian>(word: W) -> u128
 }
 
 /// Returns a word reversed if the order `E` is little-endian, and unchanged if it is big-endian. So
-/// the bit at index `i` gets the weight `2 ^ i`.
+/// the bit at index `i` gets the weight `2 ^ i`, and the bit of weight `2 ^ i` gets the index `i`.
+/// A second call undoes the first.
 #[inline]
-pub fn turned<W: Word, E: Endian>(word: W) -> W
-    ensures { bit_set W.width (W.pattern result)
+pub fn ordered_word<W: Word, E: Endian>(word: W) -> W
+    ensures to_weights { bit_set W.width (W.pattern result)
         ≡ read_in E.mirrored W.width (bit_set W.width (W.pattern word)) }
-{
-    W::from_bits(number_of::<W, E>(word))
-}
-
-/// Undoes `turned`: the word is reversed if the order `E` is little-endian. So the bit of weight
-/// `2 ^ i` gets the index `i`.
-#[inline]
-pub fn turned_back<W: Word, E: Endian>(word: W) -> W
-    ensures { read_in E.mirrored W.width (bit_set W.width (W.pattern result))
+    ensures to_indexes { read_in E.mirrored W.width (bit_set W.width (W.pattern result))
         ≡ bit_set W.width (W.pattern word) }
 {
-    word_of::<W, E>(word.to_bits())
+    W::from_bits(number_of::<W, E>(word))
 }
 
 /// Converts a number to a word. For each `i`, the bit of the word at index `i`, in the order `E`,

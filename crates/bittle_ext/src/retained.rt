@@ -7,7 +7,7 @@ ghost use Rattle.bittle.specs.BitPatterns.{bit_set};
 ghost use Rattle.bittle.specs.Values.{set_in, ShapeFits};
 ghost use Rattle.bittle.specs.Words.{ReplacesWord, word_of};
 
-use crate::numbers::{turned, turned_back};
+use crate::numbers::ordered_word;
 use bittle::{BigEndian, Bits, BitsMut, Endian};
 use bittle_bits::extension::{
     Front, Ones, Operation, ReadWords, SymmetricDifference, Union, Word, pop, word_width,
@@ -57,7 +57,7 @@ pub fn retain<B: BitsMut, E: Endian, F: FnMut(u32) -> bool>(bits: &mut B, mut ke
             continue;
         }
         let start = k as u32 * width;
-        let mut rest = turned::<B::LeafWord, E>(word);
+        let mut rest = ordered_word::<B::LeafWord, E>(word);
         let mut kept = <B::LeafWord as Word>::zero();
         let mut before = rest;
         while let Some(index) = pop::<B::LeafWord, BigEndian, Front>(&mut rest) {
@@ -67,7 +67,7 @@ pub fn retain<B: BitsMut, E: Endian, F: FnMut(u32) -> bool>(bits: &mut B, mut ke
             }
             before = rest;
         }
-        change_word(bits, k, word, turned_back::<B::LeafWord, E>(kept));
+        change_word(bits, k, word, ordered_word::<B::LeafWord, E>(kept));
         k = bits.pass_over::<Ones, Front>(k + 1, words);
     }
 }

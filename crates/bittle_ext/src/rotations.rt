@@ -1,6 +1,6 @@
 //! Rotates owned sets, a word at a time, and computes the words that rotations and shifts write.
 
-ghost use Rattle.std.specs.Prelude.{◌≡◌, ◌+◌, ◌-◌, ◌*◌, ◌^◌, ◌<◌, IsTrue};
+ghost use Rattle.std.specs.Prelude.{◌≡◌, ◌+◌, ◌-◌, ◌*◌, ◌%◌, ◌^◌, ◌<◌, IsTrue};
 ghost use Rattle.bittle.specs.BitPatterns.{bit_set};
 ghost use Rattle.bittle_ext.specs.Rotations.{rotated_down, rotated_up};
 ghost use Rattle.bittle_ext.specs.Rotations.{IsDistance, IsWordAfter, IsWindow, IsWordFrom};
@@ -114,22 +114,30 @@ pub fn word_from<B: Bits, E: Endian>(set: &B, at: usize, next: usize, from: u32)
     window::<B::LeafWord, E>(set.nth_leaf_word(at), set.nth_leaf_word(next), from)
 }
 
-/// Returns the set with each set bit moved down by `by`. A bit that passes index 0 goes on at the
-/// last index.
+/// Returns by how much each bit moves down where it should move up by `by`, and wrap.
+#[inline]
+pub fn opposite(capacity: u32, by: u32) -> u32
+    requires some { 0 < capacity }
+    ensures within { result < capacity }
+    ensures wrapped { result ≡ (capacity - by % capacity) % capacity }
+{
+    let up = by % capacity;
+    if up == 0 { 0 } else { capacity - up }
+}
+
+/// Returns the set with each set bit moved down by `by`, which is below the capacity. A bit that
+/// passes index 0 goes on at the last index.
 ///
 /// One loop reads the words of `set` up to the last one, and a second loop reads those from the
 /// first one on. So neither loop tests whether an index wraps.
 #[inline]
-pub fn rotate_down<B: BitsOwned, E: Endian>(set: &B, by: u32) -> B
-    requires { IsTrue B.indexable }
+fn rotate_within<B: BitsOwned, E: Endian>(set: &B, by: u32) -> B
+    requires fits { IsTrue B.indexable }
+    requires within { by < (B.big set.now).capacity }
     ensures { set_in B.Shape E.Endian result ≡ rotated_down (set_in B.Shape E.Endian set.now) by }
 {
     let mut result = *set;
-    let capacity = capacity_of::<B, E>(set);
-    if capacity == 0 {
-        return result;
-    }
-    let (words, skipped, from) = distance::<B>(set, by % capacity);
+    let (words, skipped, from) = distance::<B>(set, by);
     let left = words - skipped;
     for k in 0..left - 1 {
         let word = word_from::<B, E>(set, k + skipped, k + skipped + 1, from);
@@ -143,6 +151,20 @@ pub fn rotate_down<B: BitsOwned, E: Endian>(set: &B, by: u32) -> B
     result
 }
 
+/// Returns the set with each set bit moved down by `by`. A bit that passes index 0 goes on at the
+/// last index.
+#[inline]
+pub fn rotate_down<B: BitsOwned, E: Endian>(set: &B, by: u32) -> B
+    requires { IsTrue B.indexable }
+    ensures { set_in B.Shape E.Endian result ≡ rotated_down (set_in B.Shape E.Endian set.now) by }
+{
+    let capacity = capacity_of::<B, E>(set);
+    if capacity == 0 {
+        return *set;
+    }
+    rotate_within::<B, E>(set, by % capacity)
+}
+
 /// Returns the set with each set bit moved up by `by`. A bit that passes the last index goes on at
 /// 0.
 #[inline]
@@ -151,10 +173,8 @@ pub fn rotate_up<B: BitsOwned, E: Endian>(set: &B, by: u32) -> B
     ensures { set_in B.Shape E.Endian result ≡ rotated_up (set_in B.Shape E.Endian set.now) by }
 {
     let capacity = capacity_of::<B, E>(set);
-    let back = if capacity == 0 {
-        0
-    } else {
-        capacity - by % capacity
-    };
-    rotate_down::<B, E>(set, back)
+    if capacity == 0 {
+        return *set;
+    }
+    rotate_within::<B, E>(set, opposite(capacity, by))
 }

@@ -2,7 +2,7 @@
 
 ghost use Rattle.std.specs.Iterator.{YieldsFirst, YieldsLast, item_count};
 ghost use Rattle.std.specs.Prelude.{◌≡◌, ◌<◌, ◌⊎◌, true, false, ⊤, IsTrue, MatchBool};
-ghost use Rattle.bittle_ext.specs.Edges.{paired, AreByTurns, IsEven};
+ghost use Rattle.bittle_ext.specs.Edges.{paired, Alternate, IsEven};
 ghost use Rattle.bittle_ext.specs.Runs.{runs, AreRunsBelow, RunsInOrder, RunsInReverse};
 ghost use Rattle.bittle.specs.PlainSet.{PlainSet};
 ghost use Rattle.bittle.specs.Values.{kind_in, ShapeFits};
@@ -43,13 +43,13 @@ impl<'a, B: Shape, E: Endian, K: Kind> Model for IterRuns<'a, B, E, K> {
     ghost Value = { List (Range ℕ) };
 
     ghost use Rattle.std.specs.Prelude.{◌≡◌, IsTrue};
-    ghost use Rattle.bittle_ext.specs.Edges.{paired, AreByTurns, IsEven};
+    ghost use Rattle.bittle_ext.specs.Edges.{paired, Alternate, IsEven};
     ghost use Rattle.bittle.specs.Values.{kind_in, ShapeFits};
 
     ghost view = { λ i. paired i.to i.edges.remaining };
 
     ghost invariant = { λ i. ShapeFits B.Shape i.bits.now × (i.to ≡ (B.big i.bits.now).capacity)
-        × AreByTurns (kind_in B.Shape E.Endian K.Kind i.bits.now) i.edges.remaining
+        × Alternate (kind_in B.Shape E.Endian K.Kind i.bits.now) i.edges.remaining
         × (IsTrue i.is_closed → IsEven i.edges.remaining) };
 }
 
@@ -118,8 +118,8 @@ fn first_run<B: ReadWords, E: Endian, K: Kind>(
     to: u32,
 ) -> Option<Range<u32>>
     ensures gave { YieldsFirst (λ e. paired to e.remaining) edges.old result edges.new }
-    ensures turns { (s : PlainSet) → AreByTurns s edges.old.remaining
-        → AreByTurns s edges.new.remaining }
+    ensures alternate { (s : PlainSet) → Alternate s edges.old.remaining
+        → Alternate s edges.new.remaining }
     ensures even { IsEven edges.old.remaining → IsEven edges.new.remaining }
 {
     let Some(start) = edges.next() else {
@@ -154,10 +154,10 @@ fn last_run<B: Bits, E: Endian, K: Kind>(
     is_closed: &mut bool,
 ) -> Option<Range<u32>>
     requires fits { ShapeFits B.Shape bits.now }
-    requires turns { AreByTurns (kind_in B.Shape E.Endian K.Kind bits.now) edges.old.remaining }
+    requires alternate { Alternate (kind_in B.Shape E.Endian K.Kind bits.now) edges.old.remaining }
     requires closed { IsTrue is_closed.old → IsEven edges.old.remaining }
     ensures gave { YieldsLast (λ e. paired to e.remaining) edges.old result edges.new }
-    ensures turns { AreByTurns (kind_in B.Shape E.Endian K.Kind bits.now) edges.new.remaining }
+    ensures alternate { Alternate (kind_in B.Shape E.Endian K.Kind bits.now) edges.new.remaining }
     ensures closed { IsTrue is_closed.new → IsEven edges.new.remaining }
 {
     let Some(last) = edges.next_back() else {

@@ -6,7 +6,7 @@ ghost use Rattle.bittle_ext.specs.Ranks.{HasNoRank, IsInWord};
 ghost use Rattle.bittle.specs.PlainSet.{members_below};
 ghost use Rattle.bittle.specs.Values.{set_in, ShapeFits};
 
-use crate::numbers::{low_bits_of, turned, width_of};
+use crate::numbers::{low_bits_of, ordered_word, width_of};
 use crate::views::by_words::count_word;
 use bittle::{Bits, Endian};
 use bittle_bits::extension::{Word, word_width};
@@ -58,7 +58,7 @@ pub fn index_of_rank<B: Bits, E: Endian>(bits: &B, k: u32, rest: u32) -> u32
         × (members_below ours index ≡ members_below ours (k * B.width) + rest) }
 {
     let width = width_of::<B::LeafWord>();
-    let mut word = turned::<B::LeafWord, E>(bits.nth_leaf_word(k as usize));
+    let mut word = ordered_word::<B::LeafWord, E>(bits.nth_leaf_word(k as usize));
     let mut left = rest;
     let mut at = 0;
     let mut span = width;

@@ -8,7 +8,7 @@ use Rattle.bittle.specs.Values.{set_in}
 use Rattle.bittle.specs.Walk.{ones_or_zeros}
 use Rattle.bittle_bits.proofs.OnesOrZeros.{ones_or_zeros-members}
 use Rattle.bittle_ext.specs.Changes.{with_index_assigned}
-use Rattle.bittle_ext.proofs.OneBit.{CombinesIndex, HoldsIndex, bit_combined, flipped, flipped_alone, flipped_keeps, flipped_turns, has_place, holds_index, holds_kind, least_place}
+use Rattle.bittle_ext.proofs.OneBit.{CombinesIndex, HoldsIndex, bit_combined, flipped, flipped_alone, flipped_keeps, flipped_changes, has_place, holds_index, holds_kind, least_place}
 use Rattle.bittle_ext.proofs.RetainedWords.{none_left, popped}
 use Rattle.bittle_ext.proofs.one_bit.flip_first.Given.{Over}
 use Rattle.bittle_ext.proofs.one_bit.flip_first.Goals.{After-bits_of_kind-bits}
@@ -53,7 +53,7 @@ returns-in-Some-clause-set g c =
     let d = bit_set w (g.B.LeafWord.Word.pattern c.nth_leaf_word.result) in
     let at = held g (goal.at.returns-in-Some-clause-set g c).After-bits_of_kind-bits in
     let pop = popped w c.in-Some.field-0 _ _ (rw b.leaf_width at c.in-Some.ensures.found) in
-    let turned : CombinesIndex (flipped ones) m w (i / c.word_width.result) i _ _
+    let flipped_bit : CombinesIndex (flipped ones) m w (i / c.word_width.result) i _ _
     (g.B.Shape.big old) (g.B.Shape.big new) = record {
       keeps = flipped_keeps ones;
       is = λ o h. flipped_alone ones m w _ _ _ _ _
@@ -63,8 +63,8 @@ returns-in-Some-clause-set g c =
           (least_place at.1 at.2 _ _ pop);
       replaced = c.set_nth_leaf_word.ensures.set;
     } in
-    bit_combined at.0 turned (b.whole_words old) (b.none_past old) (b.none_past new)
-    ∙ ap (with_index_assigned s i) (flipped_turns ones (contains s i))
+    bit_combined at.0 flipped_bit (b.whole_words old) (b.none_past old) (b.none_past new)
+    ∙ ap (with_index_assigned s i) (flipped_changes ones (contains s i))
 
 pub returns-in_default-clause-set : goal.returns-in_default-clause-set
 returns-in_default-clause-set g c =

@@ -1,6 +1,6 @@
 use Rattle.std.proofs.Common.{arith}
 use Rattle.bittle.specs.Values.{set_in}
-use Rattle.bittle_ext.proofs.RelationFacts.{IsNext, turned, met}
+use Rattle.bittle_ext.proofs.RelationFacts.{IsNext, swapped, met}
 use Rattle.bittle_ext.proofs.relations.first_below.Given.{Over}
 use Rattle.bittle_ext.proofs.relations.first_below.Goals.{In-Some}
 use Rattle.bittle_ext.proofs.relations.first_below.Goals as goal
@@ -17,7 +17,7 @@ next g c = record {
 
 pub returns-in_default-end_in : goal.returns-in_default-end_in
 returns-in_default-end_in g c =
-    turned (next g (goal.at.returns-in_default-end_in g c).In-Some) c.args.end (omega arith)
+    swapped (next g (goal.at.returns-in_default-end_in g c).In-Some) c.args.end (omega arith)
     c.in_default-end_in.ensures
 
 pub returns-then-theirs-ours : goal.returns-then-theirs-ours
@@ -30,6 +30,6 @@ loop-ours-preserved g c =
     let found = c.in-Some-end_in.ensures in
     record {
       within = omega (arith, found.1);
-      before = turned (next g (goal.at.loop-ours-preserved g c).In-Some)
+      before = swapped (next g (goal.at.loop-ours-preserved g c).In-Some)
           c.in-Some-end_in.theirs (omega (arith, found.1)) found.3;
     }

@@ -95,7 +95,7 @@ loop-index-init g c =
         c.loop-k.k * w,
         halfway_none g.E.Endian.mirrored w c.loop-k.k _ _ _ (g.B.Shape.big c.loop-k.bits)
             b.width_positive c.zero-kept.ensures c.nth_leaf_word-word.ensures
-            (rw b.leaf_width at c.turned-rest.ensures),
+            (rw b.leaf_width at c.ordered_word-rest.ensures.to_weights),
         λ first old h. h,
       );
     }
@@ -226,7 +226,7 @@ loop-k-preserved g c =
     let none = none_left w _ (rw b.leaf_width at c.in_default.ensures.found).0 in
     let is = halfway_all m w k _ _ h.1 _ (g.B.Shape.big now) (g.B.Shape.big new) h.0 b.width_positive
     (b.whole_words now) (b.none_past now) (b.none_past new) h.2 none c.change_word.ensures.set
-    (rw b.leaf_width at c.turned_back.ensures) in
+    (rw b.leaf_width at c.ordered_word.ensures.to_indexes) in
     let asked = subst (λ u. RetainsBelow R c.args.keep s c.loop-index.keep u h.1) is
     (h.3 c.args.keep s v.retains) in
     let e = c.pass_over-k-in-loop-k.ensures in

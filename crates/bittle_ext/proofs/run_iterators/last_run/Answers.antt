@@ -2,7 +2,7 @@ use Rattle.std.proofs.Common.{arith, ap}
 use Rattle.bittle.specs.Values.{kind_in, set_in}
 use Rattle.bittle_bits.proofs.OnesOrZeros.{ones_or_zeros-capacity}
 use Rattle.bittle_ext.specs.Edges.{paired}
-use Rattle.bittle_ext.proofs.EdgeRuns.{even_old, last_edge, open_run, closed_run, some_left, still_even, rest_by_turns}
+use Rattle.bittle_ext.proofs.EdgeRuns.{even_old, last_edge, open_run, closed_run, some_left, still_even, rest_alternates}
 use Rattle.bittle_ext.proofs.run_iterators.last_run.Goals as goal
 
 pub returns-in_default-clause-gave : goal.returns-in_default-clause-gave
@@ -16,53 +16,53 @@ is_open-is_open-requires-clause-within g c =
     let ours = kind_in g.B.Shape g.E.Endian g.K.Kind c.args.bits.now in
     omega (
       arith,
-      (last_edge ours c.args.to _ _ _ c.in-Some.ensures.steps.gave c.requires.turns).below,
+      (last_edge ours c.args.to _ _ _ c.in-Some.ensures.steps.gave c.requires.alternate).below,
       ones_or_zeros-capacity g.K.Kind.ONES (set_in g.B.Shape g.E.Endian c.args.bits.now),
     )
 
 pub returns-then-is_open-clause-gave : goal.returns-then-is_open-clause-gave
 returns-then-is_open-clause-gave g c =
     open_run (kind_in g.B.Shape g.E.Endian g.K.Kind c.args.bits.now) c.args.to _ _ _
-    c.in-Some.ensures.steps.gave c.requires.turns c.if-is_open.ensures
+    c.in-Some.ensures.steps.gave c.requires.alternate c.if-is_open.ensures
 
-pub returns-then-is_open-clause-turns : goal.returns-then-is_open-clause-turns
-returns-then-is_open-clause-turns g c =
+pub returns-then-is_open-clause-alternate : goal.returns-then-is_open-clause-alternate
+returns-then-is_open-clause-alternate g c =
     (last_edge (kind_in g.B.Shape g.E.Endian g.K.Kind c.args.bits.now) c.args.to _ _ _
-    c.in-Some.ensures.steps.gave c.requires.turns).rest
+    c.in-Some.ensures.steps.gave c.requires.alternate).rest
 
 pub returns-then-is_open-clause-closed : goal.returns-then-is_open-clause-closed
 returns-then-is_open-clause-closed g c = λ _.
     (last_edge (kind_in g.B.Shape g.E.Endian g.K.Kind c.args.bits.now) c.args.to _ _ _
-    c.in-Some.ensures.steps.gave c.requires.turns).begins c.if-is_open.ensures
+    c.in-Some.ensures.steps.gave c.requires.alternate).begins c.if-is_open.ensures
 
 pub returns-in-Some-next_back-clause-gave : goal.returns-in-Some-next_back-clause-gave
 returns-in-Some-next_back-clause-gave g c =
     let ours = kind_in g.B.Shape g.E.Endian g.K.Kind c.args.bits.now in
     let took = c.in-Some.ensures.steps.gave in
-    closed_run ours c.args.to _ _ _ took c.requires.turns
-    (even_old ours c.args.to _ _ _ took c.requires.turns _ c.requires.closed c.if-is_open.ensures)
+    closed_run ours c.args.to _ _ _ took c.requires.alternate
+    (even_old ours c.args.to _ _ _ took c.requires.alternate _ c.requires.closed c.if-is_open.ensures)
     _ _ c.in-Some-next_back.ensures.steps.gave
 
-pub returns-in-Some-next_back-clause-turns : goal.returns-in-Some-next_back-clause-turns
-returns-in-Some-next_back-clause-turns g c =
+pub returns-in-Some-next_back-clause-alternate : goal.returns-in-Some-next_back-clause-alternate
+returns-in-Some-next_back-clause-alternate g c =
     let ours = kind_in g.B.Shape g.E.Endian g.K.Kind c.args.bits.now in
     let took = c.in-Some.ensures.steps.gave in
-    rest_by_turns ours c.args.to _ _ _ took c.requires.turns
-    (even_old ours c.args.to _ _ _ took c.requires.turns _ c.requires.closed c.if-is_open.ensures)
+    rest_alternates ours c.args.to _ _ _ took c.requires.alternate
+    (even_old ours c.args.to _ _ _ took c.requires.alternate _ c.requires.closed c.if-is_open.ensures)
     _ _ c.in-Some-next_back.ensures.steps.gave
 
 pub returns-in-Some-next_back-clause-closed : goal.returns-in-Some-next_back-clause-closed
 returns-in-Some-next_back-clause-closed g c = λ _.
     let ours = kind_in g.B.Shape g.E.Endian g.K.Kind c.args.bits.now in
     let took = c.in-Some.ensures.steps.gave in
-    still_even ours c.args.to _ _ _ took c.requires.turns
-    (even_old ours c.args.to _ _ _ took c.requires.turns _ c.requires.closed c.if-is_open.ensures)
+    still_even ours c.args.to _ _ _ took c.requires.alternate
+    (even_old ours c.args.to _ _ _ took c.requires.alternate _ c.requires.closed c.if-is_open.ensures)
     _ _ c.in-Some-next_back.ensures.steps.gave
 
 pub returns-in-None-clause-gave : goal.returns-in-None-clause-gave
 returns-in-None-clause-gave g c =
     let ours = kind_in g.B.Shape g.E.Endian g.K.Kind c.args.bits.now in
     let took = c.in-Some.ensures.steps.gave in
-    absurd (some_left ours c.args.to _ _ _ took c.requires.turns
-    (even_old ours c.args.to _ _ _ took c.requires.turns _ c.requires.closed c.if-is_open.ensures)
+    absurd (some_left ours c.args.to _ _ _ took c.requires.alternate
+    (even_old ours c.args.to _ _ _ took c.requires.alternate _ c.requires.closed c.if-is_open.ensures)
     c.in-None.ensures.steps.gave.0)

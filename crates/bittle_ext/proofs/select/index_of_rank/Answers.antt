@@ -23,7 +23,7 @@ loop-span-init g c =
       left = ap (λ n. members_below s n + c.args.rest) start;
       to = omega (arith, c.requires.has_it, ap (members_below s) end);
       bits = λ i h. bits_of_whole g.E.Endian.mirrored w k _ _ (g.B.Shape.big c.args.bits.now)
-          b.width_positive c.nth_leaf_word.ensures (rw b.leaf_width at c.turned-word.ensures) i
+          b.width_positive c.nth_leaf_word.ensures (rw b.leaf_width at c.ordered_word-word.ensures.to_weights) i
           (omega (arith, h, wide)) ∙ ap s.has (omega arith);
     }
 

@@ -6,7 +6,7 @@ use Rattle.bittle_ext.proofs.bits_shift_ext.BitsShiftExt.rotate_up.Goals as goal
 
 pub returns-clause-moved : goal.returns-clause-moved
 returns-clause-moved g c i =
-    ap (λ s. contains s (i + c.args.by)) c.turn_up.ensures.set ∙ rotated_to _ _ i
+    ap (λ s. contains s (i + c.args.by)) c.rotate_up.ensures.set ∙ rotated_to _ _ i
 
 pub returns-clause-count : goal.returns-clause-count
-returns-clause-count g c = ap size c.turn_up.ensures.set ∙ size_rotated_up _ _
+returns-clause-count g c = ap size c.rotate_up.ensures.set ∙ size_rotated_up _ _

@@ -4,7 +4,7 @@ use Rattle.bittle.specs.PlainSet.{ascending}
 use Rattle.bittle.specs.Values.{kind_in, set_in}
 use Rattle.bittle_bits.proofs.OnesOrZeros.{ones_or_zeros-capacity}
 use Rattle.bittle_ext.specs.Edges.{paired}
-use Rattle.bittle_ext.proofs.EdgeRuns.{pairs_are_runs, edges_by_turns}
+use Rattle.bittle_ext.proofs.EdgeRuns.{pairs_are_runs, edges_alternate}
 use Rattle.bittle_ext.proofs.RunLists.{are_runs_below, runs_in_order, runs_in_reverse}
 use Rattle.bittle_ext.proofs.run_iterators.IterRuns.new.Goals as goal
 
@@ -14,7 +14,7 @@ invariant_of-result g c =
     let items = (rw c.new.ensures at c.new-2.ensures.remaining) ∙ ap ascending c.of.ensures.set in (
       c.requires,
       c.bits_capacity.ensures.value c.requires,
-      rw items (edges_by_turns (kind_in g.B.Shape g.E.Endian g.K.Kind c.args.bits.now) ours.capacity
+      rw items (edges_alternate (kind_in g.B.Shape g.E.Endian g.K.Kind c.args.bits.now) ours.capacity
           (sym (ones_or_zeros-capacity g.K.Kind.ONES ours))),
       λ h. absurd (true≢false (sym h)),
     )
