@@ -1,7 +1,7 @@
 //! Counts of set bits or unset bits: some are added or subtracted, and some are cast to narrower
 //! types. Also positions of items in an iterator.
 
-ghost use Rattle.std.specs.Prelude.{◌≡◌, ◌==◌, ◌+◌, ◌-◌, true, length, position, sum, Some, map, slice_index};
+ghost use Rattle.std.specs.Prelude.{◌≡◌, ◌==◌, ◌+◌, ◌-◌, true, length, position, Some, map, slice_index};
 ghost use Rattle.std.specs.List.{last_or, enumerate_from};
 ghost use Rattle.std.specs.Int.Bits.{bit_xor};
 ghost use Rattle.bittle.specs.BitPatterns.{bit_set};
@@ -157,16 +157,4 @@ pub fn count_of_any_both<B: BitsOwned>(one: B, other: B) -> u64
     ensures { result ≡ size (B.big one) + size (B.big other) }
 {
     one.count_ones() as u64 + other.count_ones() as u64
-}
-
-/// Returns the sum of the indexes of the set bits. It adds them by `wrapping_add`, from the
-/// greatest down.
-pub fn wrapping_sum(mask: u32) -> u64
-    ensures { result ≡ sum (ascending (bit_set 32 mask)) }
-{
-    let mut total = 0u64;
-    for index in mask.iter_ones().rev() {
-        total = total.wrapping_add(index as u64);
-    }
-    total
 }

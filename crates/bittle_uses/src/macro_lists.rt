@@ -1,5 +1,7 @@
 //! Uses of the macros `set!`, `set_le!` and `set_be!`, on any type. The check refuses a macro that
-//! makes a wrong set from a list.
+//! makes a wrong set from a list. The three macros differ only in the calls that they make for an
+//! index, for a range `a..b` and for a range `a..=b`. So each of them makes the first list, which
+//! has all three, and `set!` alone makes the others.
 //!
 //! Together the lists cover these cases. An item of each kind stands before an item of another
 //! kind. Indexes stand beside indexes, and ranges beside ranges. An index is the first item of some
@@ -46,24 +48,6 @@ pub fn listed_open<B: BitsOwned>(index: u32) -> B
     bittle::set![100.., 2..=3, 70..75, 9, index]
 }
 
-/// Makes the set of the same list as [`listed_open`], in little-endian order.
-pub fn listed_open_le<B: BitsOwned>(index: u32) -> B
-    requires { IsTrue B.indexable }
-    ensures { set_in B.Shape ⟦<LittleEndian as Endian>⟧ result
-        ≡ listed_open_set B.type_capacity index }
-{
-    bittle::set_le![100.., 2..=3, 70..75, 9, index]
-}
-
-/// Makes the set of the same list as [`listed_open`], in big-endian order.
-pub fn listed_open_be<B: BitsOwned>(index: u32) -> B
-    requires { IsTrue B.indexable }
-    ensures { set_in B.Shape ⟦<BigEndian as Endian>⟧ result
-        ≡ listed_open_set B.type_capacity index }
-{
-    bittle::set_be![100.., 2..=3, 70..75, 9, index]
-}
-
 /// Makes the set of a list that is one open range, which has all indexes.
 pub fn listed_whole<B: BitsOwned>() -> B
     requires { IsTrue B.indexable }
@@ -72,42 +56,10 @@ pub fn listed_whole<B: BitsOwned>() -> B
     bittle::set![0..]
 }
 
-/// Makes the set of the same list as [`listed_whole`], in little-endian order.
-pub fn listed_whole_le<B: BitsOwned>() -> B
-    requires { IsTrue B.indexable }
-    ensures { set_in B.Shape ⟦<LittleEndian as Endian>⟧ result ≡ listed_whole_set B.type_capacity }
-{
-    bittle::set_le![0..]
-}
-
-/// Makes the set of the same list as [`listed_whole`], in big-endian order.
-pub fn listed_whole_be<B: BitsOwned>() -> B
-    requires { IsTrue B.indexable }
-    ensures { set_in B.Shape ⟦<BigEndian as Endian>⟧ result ≡ listed_whole_set B.type_capacity }
-{
-    bittle::set_be![0..]
-}
-
 /// Makes the set of a list that has two ranges `a..=b`, then two ranges `a..b`.
 pub fn listed_ranges<B: BitsOwned>() -> B
     requires { IsTrue B.indexable }
     ensures { set_in B.Shape B.Order.Endian result ≡ listed_ranges_set B.type_capacity }
 {
     bittle::set![1..=2, 4..=5, 7..9, 10..12]
-}
-
-/// Makes the set of the same list as [`listed_ranges`], in little-endian order.
-pub fn listed_ranges_le<B: BitsOwned>() -> B
-    requires { IsTrue B.indexable }
-    ensures { set_in B.Shape ⟦<LittleEndian as Endian>⟧ result ≡ listed_ranges_set B.type_capacity }
-{
-    bittle::set_le![1..=2, 4..=5, 7..9, 10..12]
-}
-
-/// Makes the set of the same list as [`listed_ranges`], in big-endian order.
-pub fn listed_ranges_be<B: BitsOwned>() -> B
-    requires { IsTrue B.indexable }
-    ensures { set_in B.Shape ⟦<BigEndian as Endian>⟧ result ≡ listed_ranges_set B.type_capacity }
-{
-    bittle::set_be![1..=2, 4..=5, 7..9, 10..12]
 }

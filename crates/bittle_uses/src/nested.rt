@@ -1,5 +1,4 @@
-//! Iterators over nested arrays. One iterator owns its set, and its function accepts a set of any
-//! shape. The other iterator borrows its set.
+//! An iterator over a nested array. It owns the array, and its function accepts a set of any shape.
 
 ghost use Rattle.std.specs.List.{last_or};
 ghost use Rattle.std.specs.Prelude.{◌≡◌, Some};
@@ -8,7 +7,7 @@ ghost use Rattle.bittle.specs.PlainSet.{ascending};
 ghost use Rattle.bittle.specs.Rows.{row_set};
 ghost use Rattle.bittle.specs.Values.{set_in, ShapeFits};
 
-use bittle::{Bits, BitsOwned, Set};
+use bittle::BitsOwned;
 
 /// Returns the greatest set bit of any set, or 0 if none is set. The iterator owns the set.
 pub fn greatest_of_owned<B: BitsOwned>(set: B) -> u32
@@ -28,24 +27,4 @@ pub fn greatest_of_table(table: [[u32; 4]; 4]) -> u32
         (ascending (row_set 4 128 (row_set 4 32 (bit_set 32)) table)) }
 {
     greatest_of_owned(table)
-}
-
-/// Returns the greatest set bit of a `Set` over a table of four rows, or 0.
-pub fn greatest_of_table_as_set(table: Set<[[u32; 4]; 4]>) -> u32
-    ensures { Some result ≡ last_or (Some 0)
-        (ascending (row_set 4 128 (row_set 4 32 (bit_set 32)) table.bits)) }
-{
-    greatest_of_owned(table)
-}
-
-/// Returns the greatest set bit of a table of four rows, or 0. The iterator borrows the table.
-pub fn greatest_of_lent_table(table: &[[u32; 4]; 4]) -> u32
-    ensures { Some result ≡ last_or (Some 0)
-        (ascending (row_set 4 128 (row_set 4 32 (bit_set 32)) table.now)) }
-{
-    let mut last = 0;
-    for index in table.iter_ones() {
-        last = index;
-    }
-    last
 }

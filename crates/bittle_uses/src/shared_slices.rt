@@ -2,7 +2,7 @@
 //! function either requires that the slice fits, or tests its `bits_capacity()`.
 
 ghost use Rattle.std.specs.Prelude.{◌≡◌, ◌≤◌, ◌<◌, ◌*◌, length, slice_get, reverse, MatchOption};
-ghost use Rattle.std.specs.Prelude.{Some, None, true, [], map, slice_index, unwrap_or};
+ghost use Rattle.std.specs.Prelude.{Some, true, [], map, slice_index, unwrap_or};
 ghost use Rattle.std.specs.List.{last_or};
 ghost use Rattle.bittle.specs.Orders.{read_in};
 ghost use Rattle.bittle.specs.BitPatterns.{bit_set};
@@ -34,18 +34,6 @@ pub fn least_member(mask: &[u64]) -> Option<u32>
         (row_set (length mask.now) 64 (bit_set 64) mask.now)) 0 }
 {
     mask.iter_ones().next()
-}
-
-/// Returns the least set bit of a slice, or `None` if no bit is set or the slice does not fit.
-pub fn least_member_if_it_fits(mask: &[u64]) -> Option<u32>
-    ensures fits { length mask.now * 64 < 4294967295 → result ≡ slice_get (ascending
-        (row_set (length mask.now) 64 (bit_set 64) mask.now)) 0 }
-    ensures too_long { 4294967295 ≤ length mask.now * 64 → result ≡ None }
-{
-    if mask.bits_capacity() < u32::MAX {
-        return mask.iter_ones().next();
-    }
-    None
 }
 
 /// Returns the greatest set bit of a slice in little-endian order, or 0 if no bit is set.

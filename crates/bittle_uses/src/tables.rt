@@ -15,18 +15,6 @@ ghost use Rattle.bittle.specs.Values.{set_in, ShapeFits};
 use bittle::number::IterOnes;
 use bittle::{BigEndian, Bits, BitsOwned, LittleEndian, Set};
 
-/// Returns the entry at the greatest set bit of four words, or 0 if no bit is set.
-pub fn entry_at_greatest_of_words(mask: &[u64; 4], row: &[u32; 256]) -> u32
-    ensures { Some result ≡ last_or (Some 0) (map (λ i. slice_index row.now i)
-        (ascending (row_set 4 64 (bit_set 64) mask.now))) }
-{
-    let mut last = 0;
-    for index in mask.iter_ones() {
-        last = row[index as usize];
-    }
-    last
-}
-
 /// Returns the entry at the greatest unset bit in little-endian order, or 0 if each bit is set.
 pub fn entry_at_greatest_free(mask: u64, row: &[u32; 64]) -> u32
     ensures { Some result ≡ last_or (Some 0) (map (λ i. slice_index row.now i)
@@ -82,18 +70,6 @@ pub fn entry_at_greatest_of_lent_set(mask: &Set<[u64; 4]>, row: &[u32; 256]) -> 
 {
     let mut last = 0;
     for index in mask {
-        last = row[index as usize];
-    }
-    last
-}
-
-/// Returns the entry at the greatest set bit of a `Set`, or 0. It calls `iter_ones` of the `Set`.
-pub fn entry_at_greatest_of_walked_set(mask: Set<u64>, row: &[u32; 64]) -> u32
-    ensures { Some result ≡ last_or (Some 0) (map (λ i. slice_index row.now i)
-        (ascending (bit_set 64 mask.bits))) }
-{
-    let mut last = 0;
-    for index in mask.iter_ones() {
         last = row[index as usize];
     }
     last

@@ -61,68 +61,22 @@ pub fn listed_names<B: BitsOwned>(a: u32, b: u32, c: u32) -> (B, B, B)
     by_each![a, b, same(c)]
 }
 
-/// Lists an index in parentheses, a field and a cast.
-pub fn listed_shapes<B: BitsOwned>(d: u32, p: Place, e: u8) -> (B, B, B)
+/// Lists two calls, and then two indexes in parentheses.
+pub fn listed_calls_twice<B: BitsOwned>(a: u32, b: u32, c: u32, d: u32) -> (B, B, B)
     requires { IsTrue B.indexable }
     ensures { AreListed (set_mirrored B.Shape) B.Order.Endian.mirrored result
-        (listed_three_set B.type_capacity d p.x e) }
+        (listed_four_set B.type_capacity a b c d) }
 {
-    by_each![(d), p.x, e as u32]
+    by_each![same(a), same(b), (c), (d)]
 }
 
-/// Lists two calls beside one another.
-pub fn listed_calls<B: BitsOwned>(a: u32, b: u32) -> (B, B, B)
+/// Lists two fields, and then two casts.
+pub fn listed_fields_twice<B: BitsOwned>(p: Place, q: Place, a: u8, b: u8) -> (B, B, B)
     requires { IsTrue B.indexable }
     ensures { AreListed (set_mirrored B.Shape) B.Order.Endian.mirrored result
-        (listed_two_set B.type_capacity a b) }
+        (listed_four_set B.type_capacity p.x q.x a b) }
 {
-    by_each![same(a), same(b)]
-}
-
-/// Lists two indexes in parentheses beside one another.
-pub fn listed_brackets<B: BitsOwned>(a: u32, b: u32) -> (B, B, B)
-    requires { IsTrue B.indexable }
-    ensures { AreListed (set_mirrored B.Shape) B.Order.Endian.mirrored result
-        (listed_two_set B.type_capacity a b) }
-{
-    by_each![(a), (b)]
-}
-
-/// Lists two fields beside one another.
-pub fn listed_fields<B: BitsOwned>(p: Place, q: Place) -> (B, B, B)
-    requires { IsTrue B.indexable }
-    ensures { AreListed (set_mirrored B.Shape) B.Order.Endian.mirrored result
-        (listed_two_set B.type_capacity p.x q.x) }
-{
-    by_each![p.x, q.x]
-}
-
-/// Lists two casts beside one another.
-pub fn listed_casts<B: BitsOwned>(a: u8, b: u8) -> (B, B, B)
-    requires { IsTrue B.indexable }
-    ensures { AreListed (set_mirrored B.Shape) B.Order.Endian.mirrored result
-        (listed_two_set B.type_capacity a b) }
-{
-    by_each![a as u32, b as u32]
-}
-
-/// Lists a macro call, a block and an element of an array.
-pub fn listed_groups<B: BitsOwned>(a: u32, b: u32, c: [u32; 1]) -> (B, B, B)
-    requires { IsTrue B.indexable }
-    ensures { AreListed (set_mirrored B.Shape) B.Order.Endian.mirrored result
-        (listed_three_set B.type_capacity a b (slice_index c 0)) }
-{
-    by_each![its!(a), { b }, c[0]]
-}
-
-/// Lists a dereference, a path and a sum.
-pub fn listed_terms<B: BitsOwned>(a: &u32, b: u32) -> (B, B, B)
-    requires indexable { IsTrue B.indexable }
-    requires small { b < 4294967295 }
-    ensures { AreListed (set_mirrored B.Shape) B.Order.Endian.mirrored result
-        (listed_three_set B.type_capacity a.now 7 (1 + b)) }
-{
-    by_each![*a, numbers::SEVEN, 1 + b]
+    by_each![p.x, q.x, a as u32, b as u32]
 }
 
 /// Lists two calls of methods beside one another.

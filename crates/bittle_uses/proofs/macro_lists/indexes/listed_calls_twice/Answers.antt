@@ -1,5 +1,5 @@
 use Rattle.bittle_uses.proofs.MacroLists.{then_index}
-use Rattle.bittle_uses.proofs.macro_lists.indexes.listed_fields.Goals as goal
+use Rattle.bittle_uses.proofs.macro_lists.indexes.listed_calls_twice.Goals as goal
 
 pub returns : goal.returns
 returns g c =

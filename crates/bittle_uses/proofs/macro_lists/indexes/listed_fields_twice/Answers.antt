@@ -1,5 +1,5 @@
 use Rattle.bittle_uses.proofs.MacroLists.{then_index}
-use Rattle.bittle_uses.proofs.macro_lists.indexes.listed_calls.Goals as goal
+use Rattle.bittle_uses.proofs.macro_lists.indexes.listed_fields_twice.Goals as goal
 
 pub returns : goal.returns
 returns g c =

@@ -1,7 +1,0 @@
-use Rattle.std.proofs.Common.{◌≡◌, Some}
-use Rattle.std.specs.List.{last_or}
-use Rattle.bittle_uses.proofs.nested.greatest_of_lent_table.Given as goal
-
-abbrev pub invariant-loop-index : goal.invariant-loop-index
-invariant-loop-index l =
-    last_or (Some l.last) l.index-iterator.remaining ≡ last_or (Some 0) l.initial.index-iterator.remaining

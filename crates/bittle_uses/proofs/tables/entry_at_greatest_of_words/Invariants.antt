@@ -1,6 +1,0 @@
-use Rattle.bittle_uses.proofs.Lasts.{KeepsLastEntry}
-use Rattle.bittle_uses.proofs.tables.entry_at_greatest_of_words.Given as goal
-
-abbrev pub invariant-loop-index : goal.invariant-loop-index
-invariant-loop-index l =
-    KeepsLastEntry l.row l.last l.index-iterator.remaining l.initial.index-iterator.remaining
