@@ -16,13 +16,6 @@ ghost use Rattle.bittle_ext.specs.Views.{rounded_up};
 use bittle::{Bits, Endian, LittleEndian, Set};
 use bittle_ext::{BitsOwnedExt, BitsRelationExt, BitsViewExt, View};
 
-/// Counts the items of an iterator over the bits that are set in both of two words.
-pub fn count_common(one: u64, other: u64) -> usize
-    ensures { result ≡ length (ascending (both_of (bit_set 64 one) (bit_set 64 other))) }
-{
-    one.and(&other).iter_ones().count()
-}
-
 /// Counts the bits that are set in at least one of two rows of unequal length. The rows are read in
 /// little-endian order.
 pub fn count_either(one: &[u32; 2], other: &[u32; 4]) -> usize

@@ -4,25 +4,13 @@ ghost use Rattle.std.specs.Prelude.{◌≡◌, ◌*◌, ◌<◌, ◌≤◌, leng
 ghost use Rattle.bittle.specs.BitPatterns.{bit_set};
 ghost use Rattle.bittle.specs.Orders.{read_in};
 ghost use Rattle.bittle.specs.PlainSet.{complement, contains, with_index, without_index};
-ghost use Rattle.bittle.specs.PlainSet.{with_span, without_span};
+ghost use Rattle.bittle.specs.PlainSet.{without_span};
 ghost use Rattle.bittle.specs.Rows.{row_set};
 ghost use Rattle.bittle.specs.Searches.{IsFirstIn};
 ghost use Rattle.bittle.specs.Values.{set_in};
 
 use bittle::{BitsMut, Endian, LittleEndian, Set};
 use bittle_ext::{BitsMutExt, BitsMutViewExt};
-
-/// Sets the bits of a range.
-pub fn fill(words: &mut [u64], from: u32, to: u32)
-    requires fits { length words.old * 64 < 4294967295 }
-    requires ordered { from ≤ to }
-    requires within { to ≤ length words.old * 64 }
-    ensures { row_set (length words.new) 64 (bit_set 64) words.new
-        ≡ with_span (row_set (length words.old) 64 (bit_set 64) words.old) from to }
-{
-    let mut set = Set::from_mut(words);
-    set.set_range(from, to);
-}
 
 /// Clears the bits of a range.
 pub fn clear(words: &mut [u64], from: u32, to: u32)

@@ -1,21 +1,14 @@
 //! Sets made of indexes, ranges and other sets.
 
 ghost use Rattle.std.specs.List.{fold};
-ghost use Rattle.std.specs.Prelude.{◌≡◌, ◌==◌, ◌%◌, ◌≤◌, filter, false, true};
+ghost use Rattle.std.specs.Prelude.{◌≡◌, ◌==◌, ◌%◌, filter, false, true};
 ghost use Rattle.bittle.specs.BitPatterns.{bit_set};
 ghost use Rattle.bittle.specs.Orders.{read_in};
-ghost use Rattle.bittle.specs.PlainSet.{ascending, complement, empty_set, with_index};
-ghost use Rattle.bittle.specs.PlainSet.{with_span, without_span, with_span_toggled};
+ghost use Rattle.bittle.specs.PlainSet.{ascending, empty_set, with_index};
+ghost use Rattle.bittle.specs.PlainSet.{without_span, with_span_toggled};
 
 use bittle::{Bits, LittleEndian, Set};
 use bittle_ext::{BitsMutExt, BitsOwnedExt};
-
-/// Returns the set of the bits that are unset.
-pub fn others(mask: u8) -> u8
-    ensures { bit_set 8 result ≡ complement (bit_set 8 mask) }
-{
-    mask.complement()
-}
 
 /// Returns the set of three indexes.
 pub fn three(a: u32, b: u32, c: u32) -> u64
@@ -47,15 +40,6 @@ pub fn each_fourth_of(mask: u64) -> u64
         (filter (λ k. k % 4 == 0) (ascending (bit_set 64 mask))) }
 {
     u64::from_iter(mask.iter_ones().filter(|index| *index % 4 == 0))
-}
-
-/// Returns a mask in which the bits of a range are set.
-pub fn mask_of(from: u32, to: u32) -> u64
-    requires ordered { from ≤ to }
-    requires within { to ≤ 64 }
-    ensures { bit_set 64 result ≡ with_span (bit_set 64 0) from to }
-{
-    0u64.with_range(from, to)
 }
 
 /// Returns the word with one range cleared and another range flipped.

@@ -14,16 +14,6 @@ use bittle::{Bits, Endian};
 use bittle_ext::range_iterators::IterZerosInRange;
 use bittle_ext::{BitsExt, BitsOwnedExt, BitsRangeExt, BitsViewExt};
 
-/// Counts the set bits of a range by an iterator over them.
-pub fn count_walked(mask: u64, from: u32, to: u32) -> usize
-    requires ordered { from ≤ to }
-    requires within { to ≤ 64 }
-    ensures { result
-        ≡ members_below (bit_set 64 mask) to - members_below (bit_set 64 mask) from }
-{
-    mask.iter_ones_in_range(from, to).count()
-}
-
 /// Counts the unset bits of a range in two ways. The two counts are equal, for any set and any
 /// order.
 pub fn count_twice<B: Bits, E: Endian>(set: &B, from: u32, to: u32) -> (usize, u32)
@@ -90,16 +80,6 @@ pub fn counted(mask: u16, from: u32, to: u32) -> (usize, u16)
         Err(_) => 0,
     };
     (count, u16::from_iter(walk))
-}
-
-/// Returns a word with just those bits set that are set in `mask` and lie in a range.
-pub fn within(mask: u16, from: u32, to: u32) -> u16
-    requires ordered { from ≤ to }
-    requires within { to ≤ 16 }
-    ensures { bit_set 16 result ≡ fold with_index (empty_set 16)
-        (ascending (members_within (bit_set 16 mask) from to)) }
-{
-    u16::from_iter(mask.iter_ones_in_range(from, to))
 }
 
 /// Returns the first and the last unset bit in a range of any set. If there is just one such bit,

@@ -1,27 +1,19 @@
 //! Calls that read sets: single words, arrays of words, and sets of any shape.
 
-ghost use Rattle.std.specs.Prelude.{◌≡◌, ◌↔◌, ◌+◌, ◌-◌, ◌/◌, ◌<◌, ◌≤◌, ℕ, true, IsTrue};
+ghost use Rattle.std.specs.Prelude.{◌≡◌, ◌↔◌, ◌+◌, ◌/◌, ◌<◌, ◌≤◌, ℕ, true, IsTrue};
 ghost use Rattle.std.specs.Prelude.{MatchBool, MatchOption, Option, Some, slice_get};
 ghost use Rattle.bittle.specs.BitPatterns.{bit_set};
 ghost use Rattle.bittle.specs.Orders.{read_in};
-ghost use Rattle.bittle.specs.PlainSet.{ascending, complement, members_below, size};
+ghost use Rattle.bittle.specs.PlainSet.{ascending, complement, size};
 ghost use Rattle.bittle.specs.Rows.{row_set};
-ghost use Rattle.bittle.specs.Searches.{IsFirstIn, IsLastIn, NoneIn};
+ghost use Rattle.bittle.specs.Searches.{IsFirstIn, IsLastIn};
 ghost use Rattle.bittle.specs.Values.{set_in, ShapeFits};
 ghost use Rattle.bittle_ext.specs.RangeMembers.{HasSomeIn, HasAllIn};
 ghost use Rattle.bittle_ext.specs.SetRelations.{IsSubset, AreDisjoint, Meet};
-ghost use Rattle.bittle_ext.specs.SetRelations.{IsFirstAlone, IsFirstCommon};
 ghost use Rattle.bittle_ext.specs.Runs.{IsFirstRun};
 
 use bittle::{Bits, Endian, LittleEndian, Set};
 use bittle_ext::{BitsExt, BitsRelationExt, BitsViewExt};
-
-/// Returns the least set bit.
-pub fn least(mask: u64) -> Option<u32>
-    ensures { IsFirstIn (bit_set 64 mask) 0 64 result }
-{
-    mask.first_one()
-}
 
 /// Returns the entry of `row` at the greatest set bit, or 0 if no bit is set. Each index of a bit
 /// is an index of `row`.
@@ -33,13 +25,6 @@ pub fn entry_at_greatest(mask: u16, row: &[u32; 16]) -> u32
         Some(index) => row[index as usize],
         None => 0,
     }
-}
-
-/// Returns the least unset bit.
-pub fn least_free(mask: u32) -> Option<u32>
-    ensures { IsFirstIn (complement (bit_set 32 mask)) 0 32 result }
-{
-    mask.first_zero()
 }
 
 /// Returns the greatest index of an unset bit, in little-endian order.
@@ -65,40 +50,6 @@ pub fn next_of(set: &Set<u16, LittleEndian>, from: u32) -> Option<u32>
     set.next_one(from)
 }
 
-/// Counts the set bits below an index.
-pub fn rank(board: &[u64; 4], index: u32) -> u32
-    ensures { result ≡ members_below (row_set 4 64 (bit_set 64) board.now) index }
-{
-    board.rank(index)
-}
-
-/// Returns the set bit with rank `rank`. The least set bit has rank 0.
-pub fn member(board: &[u64; 4], rank: u32) -> Option<u32>
-    ensures { result ≡ slice_get (ascending (row_set 4 64 (bit_set 64) board.now)) rank }
-{
-    board.select(rank)
-}
-
-/// Counts the set bits of a range.
-pub fn count(mask: u128, from: u32, to: u32) -> u32
-    requires ordered { from ≤ to }
-    requires within { to ≤ 128 }
-    ensures { result
-        ≡ members_below (bit_set 128 mask) to - members_below (bit_set 128 mask) from }
-{
-    mask.count_ones_in_range(from, to)
-}
-
-/// Returns whether a range of pages is free.
-pub fn is_free(pages: &[u32; 8], from: u32, to: u32) -> bool
-    requires ordered { from ≤ to }
-    requires within { to ≤ 256 }
-    ensures { let taken = row_set 8 32 (bit_set 32) pages.now in
-        MatchBool result (NoneIn taken from to) (HasSomeIn taken from to) }
-{
-    !pages.any_in_range(from, to)
-}
-
 /// Returns whether each day of a range is a working day.
 pub fn works_through(days: u32, from: u32, to: u32) -> bool
     requires ordered { from ≤ to }
@@ -107,13 +58,6 @@ pub fn works_through(days: u32, from: u32, to: u32) -> bool
         (HasSomeIn (complement (bit_set 32 days)) from to) }
 {
     days.all_in_range(from, to)
-}
-
-/// Returns where the first run of four free pages begins.
-pub fn four_free(pages: u64) -> Option<u32>
-    ensures { IsFirstRun (complement (bit_set 64 pages)) 0 4 result }
-{
-    pages.first_zero_run(4)
 }
 
 /// Searches from page `from` on for the first run of `length` free pages, and returns where it
@@ -162,26 +106,6 @@ pub fn are_disjoint_le(one: u16, other: u32) -> bool
 {
     let view = one.in_order::<LittleEndian>();
     view.is_disjoint(&other.in_order::<LittleEndian>())
-}
-
-/// Returns the first permission that is wanted and not granted.
-pub fn first_missing(wanted: u64, granted: &[u8; 8]) -> Option<u32>
-    ensures { let ours = bit_set 64 wanted in
-        let theirs = row_set 8 8 (bit_set 8) granted.now in
-        IsFirstAlone ours theirs result }
-{
-    wanted.first_alone(granted)
-}
-
-/// Returns the first bit that is set in both of two sets of any shape.
-pub fn first_of_both<A: Bits, B: Bits>(one: &A, other: &B) -> Option<u32>
-    requires one_fits { ShapeFits A.Shape one.now }
-    requires other_fits { ShapeFits B.Shape other.now }
-    ensures { let ours = set_in A.Shape A.Order.Endian one.now in
-        let theirs = set_in B.Shape B.Order.Endian other.now in
-        IsFirstCommon ours theirs result }
-{
-    one.first_common(other)
 }
 
 /// Returns the least set bit. The only bound of the type is the extension trait `BitsExt`.

@@ -13,14 +13,6 @@ ghost use Rattle.bittle_ext.specs.Calls.{IsCallableBelow};
 use bittle::{BitsMut, Set};
 use bittle_ext::prelude::*;
 
-/// Keeps the bits that a table marks, and clears all others. The table has an entry for each index.
-pub fn keep_marked(mask: &mut u64, table: &[bool; 64])
-    ensures { bit_set 64 mask.new
-        ≡ those_passing (λ i. slice_index_or table.now i false) (bit_set 64 mask.old) }
-{
-    mask.retain(|index| table[index as usize]);
-}
-
 /// Keeps the bits whose priority in a table is above a bound.
 pub fn keep_urgent(ready: &mut [u32; 4], priority: &[u8; 128], bound: u8)
     ensures { row_set 4 32 (bit_set 32) ready.new

@@ -26,14 +26,6 @@ pub fn one_rank_down(board: u64) -> u64
     board.shifted_down(8)
 }
 
-/// Returns a ring of slots that is rotated up by one.
-pub fn turned(slots: [u32; 4]) -> [u32; 4]
-    ensures { (i : ℕ) → contains (row_set 4 32 (bit_set 32) result) (i + 1)
-        ≡ contains (row_set 4 32 (bit_set 32) slots) i }
-{
-    slots.rotated_up(1)
-}
-
 /// Returns a ring of slots that is rotated down, so that slot `first` becomes slot 0.
 pub fn counted_from(ring: u16, first: u32) -> u16
     ensures { (i : ℕ) → contains (bit_set 16 result) i ≡ contains (bit_set 16 ring) (i + first) }

@@ -12,13 +12,6 @@ use bittle::{Bits, Endian};
 use bittle_ext::{BitsMutExt, BitsRangeExt, BitsViewExt};
 use std::ops::Range;
 
-/// Counts the runs of set bits.
-pub fn count_runs(mask: u64) -> usize
-    ensures { result ≡ length (runs (bit_set 64 mask)) }
-{
-    mask.iter_one_runs().count()
-}
-
 /// Returns the first and the last run of unset bits of any set. If there is just one run, the
 /// second result is `None`.
 pub fn free_runs<B: Bits, E: Endian>(set: &B) -> (Option<Range<u32>>, Option<Range<u32>>)

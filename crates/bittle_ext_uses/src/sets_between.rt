@@ -95,13 +95,6 @@ pub fn restore<B: Bits>(words: &mut [u64], saved: &B)
     set.copy_from(saved);
 }
 
-/// Returns a row of four bytes as one word with the same bits.
-pub fn packed(row: &[u8; 4]) -> u32
-    ensures { bit_set 32 result ≡ members_to 32 (row_set 4 8 (bit_set 8) row.now) }
-{
-    u32::from_set(row)
-}
-
 /// Copies the set bits of `other` into a new set of type `A`, and returns it. Bits at or past the
 /// capacity of the new set are left out.
 pub fn converted<A: BitsOwned, B: Bits>(other: &B) -> A

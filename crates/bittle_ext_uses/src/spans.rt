@@ -27,14 +27,6 @@ pub fn count_any(mask: u64, from: u32, to: u32) -> u32
     mask.count_ones_in_range(from, to)
 }
 
-/// Counts the set bits from an index on.
-pub fn count_from(board: &[u64; 4], from: u32) -> u32
-    ensures { let set = row_set 4 64 (bit_set 64) board.now in
-        result ≡ members_below set 256 - members_below set from }
-{
-    board.count_ones_in_span(from..)
-}
-
 /// Counts the unset bits up to and including `last`.
 pub fn count_free_through(mask: u8, last: u32) -> u32
     ensures { let free = complement (bit_set 8 mask) in

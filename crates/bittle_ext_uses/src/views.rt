@@ -53,15 +53,6 @@ pub fn items_of_unlike(byte: u8, row: &Set<[u32; 2], LittleEndian>) -> usize
     byte.and(row).iter_ones().count()
 }
 
-/// Counts the items of an iterator over the bits that are set in both of two sets. Both sets are
-/// read in little-endian order.
-pub fn items_of_sets(one: &Set<u64, LittleEndian>, other: &Set<u64, LittleEndian>) -> usize
-    ensures { result ≡ length (ascending (both_of (read_in true 64 (bit_set 64 one.now.bits))
-        (read_in true 64 (bit_set 64 other.now.bits)))) }
-{
-    one.and(other).iter_ones().count()
-}
-
 /// Counts the bits that are set in the first set and not in the second.
 pub fn count_first<A: Bits, B: Bits>(left: &A, right: &B) -> u32
     requires left_fits { ShapeFits A.Shape left.now }
@@ -162,42 +153,12 @@ pub fn free_in_part(taken: [u64; 4]) -> u32
     free.within(0, 200).count_ones()
 }
 
-/// Returns where the first run of `length` unset bits begins.
-pub fn first_free_run(word: u64, length: u32) -> Option<u32>
-    ensures { IsFirstRun (complement (bit_set 64 word)) 0 length result }
-{
-    word.complement_view().first_one_run(length)
-}
-
 /// Returns whether bit `index` is set in both of two rows. An index at or past the capacity wraps.
 pub fn is_in_both(one: &[u32; 4], other: &[u32; 4], index: u32) -> bool
     ensures { result ≡ contains (both_of (row_set 4 32 (bit_set 32) one.now)
         (row_set 4 32 (bit_set 32) other.now)) index }
 {
     one.and(other).test_bit(index)
-}
-
-/// Counts the bits that are set in both of two rows and unset in a third, shorter one.
-pub fn count_chain(one: &[u32; 4], other: &[u32; 4], third: &[u32; 2]) -> u32
-    ensures { result ≡ size (first_only_of (both_of (row_set 4 32 (bit_set 32) one.now)
-        (row_set 4 32 (bit_set 32) other.now)) (row_set 2 32 (bit_set 32) third.now)) }
-{
-    one.and(other).minus(third).count_ones()
-}
-
-/// Counts the bits that are set in a byte and unset in a row of longer words.
-pub fn count_unlike(byte: u8, row: &[u32; 2]) -> u32
-    ensures { result ≡ size (decided_of_first first_alone
-        (bit_set 8 byte) (row_set 2 32 (bit_set 32) row.now)) }
-{
-    byte.minus(row).count_ones()
-}
-
-/// Counts the bits below 9 that are set in both words.
-pub fn count_low(one: u64, other: u64) -> u32
-    ensures { result ≡ size (members_within (both_of (bit_set 64 one) (bit_set 64 other)) 0 9) }
-{
-    one.and(&other).within(0, 9).count_ones()
 }
 
 /// Counts the bits below 9 that are set in three words and unset in a fourth. The borrow checker
@@ -230,13 +191,6 @@ pub fn items_in_range<B: Bits>(bits: &B, from: u32, to: u32) -> usize
         (set_in B.Shape B.Order.Endian bits.now) from to)) }
 {
     bits.within(from, to).iter_ones().count()
-}
-
-/// Counts the items of an iterator over the unset bits in the range `3..50`.
-pub fn zeros_in_range(word: u64) -> usize
-    ensures { result ≡ length (ascending (members_within (complement (bit_set 64 word)) 3 50)) }
-{
-    word.complement_view().within(3, 50).iter_ones().count()
 }
 
 /// Returns the first unset bit of a word whose index is at least `from`.

@@ -1,10 +1,10 @@
 //! Changes of single words.
 
 ghost use Rattle.std.specs.Int.{w64, cast_unsigned};
-ghost use Rattle.std.specs.Prelude.{◌≡◌, ◌≢◌, ◌<◌, ◌≤◌, ◌==◌, ◌%◌, ℕ, not, true, MatchOption, Option};
+ghost use Rattle.std.specs.Prelude.{◌≡◌, ◌≢◌, ◌<◌, ◌≤◌, ◌==◌, ◌%◌, ℕ, true, MatchOption, Option};
 ghost use Rattle.bittle.specs.BitPatterns.{bit_set};
 ghost use Rattle.bittle.specs.Orders.{read_in};
-ghost use Rattle.bittle.specs.PlainSet.{complement, contains, size, with_index, without_index};
+ghost use Rattle.bittle.specs.PlainSet.{contains, size, with_index, without_index};
 ghost use Rattle.bittle.specs.PlainSet.{with_span, with_span_toggled, without_span};
 ghost use Rattle.bittle.specs.Rows.{row_set};
 ghost use Rattle.bittle.specs.Searches.{IsFirstIn, IsLastIn};
@@ -12,15 +12,6 @@ ghost use Rattle.bittle_ext.specs.Changes.{with_index_assigned, with_index_toggl
 
 use bittle::{Bits, BitsMut, LittleEndian};
 use bittle_ext::{BitsMutExt, BitsMutViewExt, BitsSpanMutExt};
-
-/// Sets a bit, and returns whether it was unset.
-pub fn add(mask: &mut u64, index: u32) -> bool
-    requires { index < 64 }
-    ensures was_unset { result ≡ not (contains (bit_set 64 mask.old) index) }
-    ensures set { bit_set 64 mask.new ≡ with_index (bit_set 64 mask.old) index }
-{
-    mask.insert(index)
-}
 
 /// Clears a bit, and returns whether it was set.
 pub fn take_away(mask: &mut i64, index: u32) -> bool
@@ -39,17 +30,6 @@ pub fn put(mask: &mut u8, index: u32, value: bool) -> bool
         ≡ with_index_assigned (read_in true 8 (bit_set 8 mask.old)) index value }
 {
     mask.in_order_mut::<LittleEndian>().replace(index, value)
-}
-
-/// Sets a bit of a row. Each other bit is as before.
-#[tactic(auto, using(bittle_ext::proofs::CallerMembers::contains_other_after_set))]
-pub fn mark(row: &mut [u64; 4], index: u32)
-    requires { index < 256 }
-    ensures { (k : ℕ) → k < 256 → k ≢ index
-        → contains (row_set 4 64 (bit_set 64) row.new) k
-        ≡ contains (row_set 4 64 (bit_set 64) row.old) k }
-{
-    row.set_bit(index);
 }
 
 /// Clears one bit and sets another one. Each other bit is as before.
@@ -109,31 +89,12 @@ pub fn keep_even(mask: &mut u64)
     mask.retain(|index| index % 2 == 0);
 }
 
-/// Clears the least set bit, and returns its index. If no bit is set, it changes nothing and
-/// returns `None`.
-pub fn take_least(mask: &mut u128) -> Option<u32>
-    ensures least { IsFirstIn (bit_set 128 mask.old) 0 128 result }
-    ensures set { MatchOption result (mask.new ≡ mask.old)
-        (λ index. bit_set 128 mask.new ≡ without_index (bit_set 128 mask.old) index) }
-{
-    mask.pop_first()
-}
-
 /// Clears the set bit with the greatest index in little-endian order, and returns that index, or
 /// `None` if no bit is set.
 pub fn take_greatest_le(mask: &mut u8) -> Option<u32>
     ensures greatest { IsLastIn (read_in true 8 (bit_set 8 mask.old)) 0 8 result }
 {
     mask.in_order_mut::<LittleEndian>().pop_last()
-}
-
-/// Takes the least free slot. If no slot is free, it changes nothing and returns `None`.
-pub fn take_slot(slots: &mut u32) -> Option<u32>
-    ensures least { IsFirstIn (complement (bit_set 32 slots.old)) 0 32 result }
-    ensures taken { MatchOption result (slots.new ≡ slots.old)
-        (λ slot. bit_set 32 slots.new ≡ with_index (bit_set 32 slots.old) slot) }
-{
-    slots.take_first_zero()
 }
 
 /// Returns the word without its least and its greatest set bit. Neither `pop_first` nor `pop_last`
