@@ -8,7 +8,6 @@ ghost use Rattle.bittle.specs.Values.{ShapeFits};
 use crate::calls::{ALONE, COMMON, UNION, UNLIKE};
 use crate::checks::{Compared, same};
 use crate::random::{combined, draw, draw_row, flags_of};
-use crate::rotations::turned_in;
 use bittle::{Bits, BitsMut, BitsOwned, LittleEndian, Set};
 use bittle_ext::prelude::*;
 use std::process::Abort;
@@ -81,30 +80,6 @@ fn a_byte_by_a_wider_word(rt: HostRuntime) {
 }
 
 #[test]
-fn a_word_by_a_byte(rt: HostRuntime) {
-    let (byte, word) = (0b0011u8, 0x0106u16);
-    let expected = [
-        (0x0107, true),
-        (0x0002, true),
-        (0x0104, true),
-        (0x0105, true),
-    ];
-    changes_each_way(&rt, word, &byte, expected);
-}
-
-#[test]
-fn a_longer_row_by_a_byte(rt: HostRuntime) {
-    let (byte, row) = (0b0011u8, [0b0110u8, 1, 0x80]);
-    let expected = [
-        ([0b0111, 1, 0x80], true),
-        ([0b0010, 0, 0], true),
-        ([0b0100, 1, 0x80], true),
-        ([0b0101, 1, 0x80], true),
-    ];
-    changes_each_way(&rt, row, &byte, expected);
-}
-
-#[test]
 fn what_changes_nothing_is_told(rt: HostRuntime) {
     // Bits 8 to 15 of the other sets are past the byte's capacity, so they change nothing.
     let byte = 0b0111u8;
@@ -146,52 +121,6 @@ fn two_rows_each_in_its_own_order(rt: HostRuntime) {
         ([0x8000, 0, 0], true),
     ];
     changes_each_way_by_left(&rt, row, left, expected);
-}
-
-// Checks a little-endian set after an operation, and whether the call reports a change.
-fn left_changes<T: BitsOwned + Compared, B: Bits>(
-    rt: &impl Abort,
-    kind: u32,
-    left: T,
-    other: &B,
-    expected: (T, bool),
-)
-    requires indexable { IsTrue T.indexable }
-    requires other_fits { ShapeFits B.Shape other.now }
-{
-    let mut set = Set::new_le(left);
-    let told = change(kind, &mut set, other);
-    same!(*rt; (set.into_bits(), told), expected);
-}
-
-#[test]
-fn a_set_from_the_left_by_a_row(rt: HostRuntime) {
-    let row = [0x8001u16, 0, 2];
-    let left = [0x8000_0000u32, 0x4000_0001];
-    left_changes(&rt, UNION, left, &row, ([0x8001_0000, 0x4000_0001], true));
-    left_changes(&rt, COMMON, left, &row, ([0x8000_0000, 0x4000_0000], true));
-}
-
-// Checks a little-endian set after an operation with another little-endian set.
-fn left_changes_by_left<T: BitsOwned + Compared, U: BitsOwned>(
-    rt: &impl Abort,
-    kind: u32,
-    left: T,
-    other: U,
-    expected: (T, bool),
-)
-    requires indexable { IsTrue T.indexable }
-    requires other_indexable { IsTrue U.indexable }
-{
-    left_changes(rt, kind, left, &Set::new_le(other), expected);
-}
-
-#[test]
-fn two_sets_from_the_left(rt: HostRuntime) {
-    // In little-endian order, `byte` has the members 0 and 7, and `row` has 1, 7 and 8.
-    let (byte, row) = (0x81u8, [0x41u8, 0x80]);
-    left_changes_by_left(&rt, UNION, byte, row, (0xC1, true));
-    left_changes_by_left(&rt, ALONE, row, byte, ([0x40, 0x80], true));
 }
 
 #[test]
@@ -517,14 +446,6 @@ fn rotations_in_place(rt: HostRuntime) {
 }
 
 #[test]
-fn rotations_in_place_from_the_left(rt: HostRuntime) {
-    // In little-endian order, bits 0, 7 and 16 are set.
-    let row = [0x81u8, 0, 0x80];
-    same!(rt; turned_in::<_, LittleEndian>(1, row, 9), [0x40, 0x40, 0x80]);
-    same!(rt; turned_in::<_, LittleEndian>(0, row, 7), [0x80, 0x40, 0x40]);
-}
-
-#[test]
 fn rotations_in_place_of_one_word_and_of_none(rt: HostRuntime) {
     let wide = 0x8000_0000_0000_0000_0000_0000_0000_0001u128;
     turns(&rt, false, wide, 127, 3);
@@ -547,21 +468,6 @@ fn a_lent_slice_is_rotated(rt: HostRuntime) {
     let mut lent = row.as_mut_slice();
     turn_up(&mut lent, 33);
     same!(rt; row, [0xC, 2, 1]);
-}
-
-#[test]
-fn drawn_rotations_in_place_agree_with_plain_loops(rt: HostRuntime) {
-    let mut state = 31;
-    for turn in 0..2000u32 {
-        let (row, up, by) = (draw_row(&mut state), turn % 2 == 0, draw(&mut state) % 60);
-        let (flags, far) = (flags_of(&row), (by % 24) as usize);
-        let mut expected = [false; 24];
-        for i in 0..24usize {
-            let from = if up { i + 24 - far } else { i + far };
-            expected[i] = flags[from % 24];
-        }
-        same!(rt; flags_of(&turned(up, row, by)), expected);
-    }
 }
 
 // For each rank, returns the index of the unset bit that has this many unset bits below it.

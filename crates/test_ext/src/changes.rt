@@ -6,7 +6,7 @@ ghost use Rattle.bittle.specs.Values.{ShapeFits};
 use crate::calls::{Change, change_in, extend_by_set, flip, inserted};
 use crate::checks::same;
 use bittle::prelude::*;
-use bittle::{Endian, LittleEndian, Set, Shape};
+use bittle::{Endian, LittleEndian, Set};
 use bittle_ext::prelude::*;
 
 /// Inserts indexes 0 and 8, and then removes 13 and 5. Returns what the two calls of each pair
@@ -54,83 +54,6 @@ fn a_bit_by_its_value(rt: HostRuntime) {
     same!(rt; assigned_and_toggled(0b0011u8), [0b0010, 0b0010, 0b1000_0000]);
 }
 
-const INSERT: u32 = 0;
-
-const REMOVE: u32 = 1;
-
-const TOGGLE: u32 = 2;
-
-const CLEAR: u32 = 3;
-
-const ASSIGN: u32 = 4;
-
-/// A change of one bit. The first number is the kind of change, such as `INSERT`, and the second is
-/// the index. The answer is what the call returns, or `true` if the call returns nothing.
-#[derive(Drop)]
-struct OneBit(u32, u32);
-
-impl Change for OneBit {
-    type Answer = bool;
-
-    fn change<B: BitsMut>(&self, set: &mut B) -> bool {
-        let index = self.1;
-        match self.0 {
-            INSERT => set.insert(index),
-            REMOVE => set.remove(index),
-            CLEAR => set.replace(index, false),
-            TOGGLE => {
-                set.toggle(index);
-                true
-            }
-            _ => {
-                set.assign(index, true);
-                true
-            }
-        }
-    }
-}
-
-/// Inserts indexes 0 and 7 and then removes 8, each through a view in the order `E`. Returns what
-/// each call returns, with the set after the second and after the third call.
-fn inserted_and_removed_in<B: BitsOwned, E: Endian>(mut set: B) -> ([bool; 3], [B; 2])
-    requires { IsTrue B.indexable }
-{
-    let first = change_in::<B, E, _>(&OneBit(INSERT, 0), &mut set);
-    let second = change_in::<B, E, _>(&OneBit(INSERT, 7), &mut set);
-    let inserted = set;
-    let third = change_in::<B, E, _>(&OneBit(REMOVE, 8), &mut set);
-    ([first, second, third], [inserted, set])
-}
-
-/// Flips bit 1, clears bit 7 and sets bit 2, each through a view in the order `E`. Returns whether
-/// bit 7 was set, with the set after the first and after the last change.
-fn flipped_and_replaced_in<B: BitsOwned, E: Endian>(mut set: B) -> (bool, [B; 2])
-    requires { IsTrue B.indexable }
-{
-    change_in::<B, E, _>(&OneBit(TOGGLE, 1), &mut set);
-    let flipped = set;
-    let answer = change_in::<B, E, _>(&OneBit(CLEAR, 7), &mut set);
-    change_in::<B, E, _>(&OneBit(ASSIGN, 2), &mut set);
-    (answer, [flipped, set])
-}
-
-#[test]
-fn one_bit_from_the_left(rt: HostRuntime) {
-    let (answers, words) = inserted_and_removed_in::<_, LittleEndian>(0b1000_0000u8);
-    same!(rt; answers, [false, true, true]);
-    same!(rt; words, [0b1000_0001, 0b0000_0001]);
-    let (answer, words) = flipped_and_replaced_in::<_, LittleEndian>(0b0000_0001u8);
-    same!(rt; (answer, words), (true, [0b0100_0001, 0b0110_0000]));
-}
-
-/// Inserts an index into a pair of sets. Returns what the call returns, with the changed pair. The
-/// prover needs less time for a generic `[T; 2]` than for `[[u8; 2]; 2]`.
-fn pair_with<T: BitsOwned>(mut pair: [T; 2], index: u32) -> ([bool; 1], [T; 2])
-    requires { IsTrue ⟦<[T; 2] as Shape>⟧.indexable }
-{
-    (inserted(&mut pair, [index]), pair)
-}
-
 /// Inserts an index into a little-endian set. Returns what the call returns, with the changed set.
 fn left_with<T: BitsOwned>(left: T, index: u32) -> ([bool; 1], T)
     requires { IsTrue T.indexable }
@@ -141,8 +64,6 @@ fn left_with<T: BitsOwned>(left: T, index: u32) -> ([bool; 1], T)
 
 #[test]
 fn one_bit_of_longer_shapes(rt: HostRuntime) {
-    let (answers, nested) = pair_with([[0u8; 2]; 2], 17);
-    same!(rt; (answers, nested[0], nested[1]), ([true], [0, 0], [2, 0]));
     same!(rt; left_with(0i16, 0), ([true], i16::MIN));
     let mut words = [0u64; 2];
     let mut lent = words.as_mut_slice();
@@ -226,39 +147,10 @@ fn after_empty_and_whole_ranges<B: BitsOwned>(mut word: B) -> [B; 3]
     [first, second, word]
 }
 
-/// A change that assigns a value to a range of bits, from the first number on and below the second.
-/// If the range runs backwards or reaches past the capacity, nothing changes.
-#[derive(Drop)]
-struct AssignRange(u32, u32, bool);
-
-impl Change for AssignRange {
-    type Answer = ();
-
-    fn change<B: BitsMut>(&self, set: &mut B) {
-        let (from, to) = (self.0, self.1);
-        if from <= to && to <= set.bits_capacity() {
-            set.assign_range(from, to, self.2);
-        }
-    }
-}
-
-/// Sets the range `6..11` and then clears the range `0..16`, each through a view in the order `E`.
-/// Returns the set after each change.
-fn after_ranges_in<B: BitsOwned, E: Endian>(mut row: B) -> [B; 2]
-    requires { IsTrue B.indexable }
-{
-    change_in::<B, E, _>(&AssignRange(6, 11, true), &mut row);
-    let first = row;
-    change_in::<B, E, _>(&AssignRange(0, 16, false), &mut row);
-    [first, row]
-}
-
 #[test]
 fn empty_and_whole_ranges(rt: HostRuntime) {
     let words = after_empty_and_whole_ranges(0b0101u8);
     same!(rt; words, [0b0101, 0b1111_1010, 0xFF]);
-    let [first, second] = after_ranges_in::<_, LittleEndian>([0u8; 2]);
-    same!(rt; (first, second), ([0x03, 0xE0], [0, 0]));
 }
 
 #[test]
@@ -431,17 +323,6 @@ fn bits_that_are_kept(rt: HostRuntime) {
     let mut none: [u8; 0] = [];
     keep(&mut none, 0, 0, true);
     same!(rt; none, []);
-}
-
-#[test]
-fn each_bit_is_asked_once_from_the_least(rt: HostRuntime) {
-    let mut word = 0b1001_0110u8;
-    let mut asked = 0u32;
-    word.retain(|index| {
-        asked = asked.wrapping_mul(10).wrapping_add(index);
-        asked != 12
-    });
-    same!(rt; (asked, word), (1247, 0b1001_0010));
 }
 
 #[test]

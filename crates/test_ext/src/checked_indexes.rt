@@ -7,7 +7,7 @@ ghost use Rattle.bittle.specs.Values.{ShapeFits};
 use crate::calls::{Change, change_in};
 use crate::checks::same;
 use bittle::prelude::*;
-use bittle::{BitsOwned, LittleEndian, Set, Shape};
+use bittle::{BitsOwned, LittleEndian, Set};
 use bittle_ext::prelude::*;
 use std::process::Abort;
 
@@ -47,14 +47,6 @@ fn questions_of_words(rt: HostRuntime) {
     answers(&rt, &1u64, [0, 63, u32::MAX]);
 }
 
-// Calls `answers` on a pair of sets. The prover needs less time for a generic `[T; 2]` than for
-// `[[u16; 2]; 2]`.
-fn answers_of_pair<T: BitsOwned>(rt: &impl Abort, pair: [T; 2], indexes: [u32; 3])
-    requires { IsTrue ⟦<[T; 2] as Shape>⟧.indexable }
-{
-    answers(rt, &pair, indexes);
-}
-
 // Calls `answers` on a little-endian set.
 fn answers_of_left<T: BitsOwned>(rt: &impl Abort, left: T, indexes: [u32; 3])
     requires { IsTrue T.indexable }
@@ -65,7 +57,6 @@ fn answers_of_left<T: BitsOwned>(rt: &impl Abort, left: T, indexes: [u32; 3])
 #[test]
 fn questions_of_rows(rt: HostRuntime) {
     answers(&rt, &[0u8, 0x10, 0x80], [12, 13, 24]);
-    answers_of_pair(&rt, [[0u16, 1], [0, 2]], [16, 17, 64]);
     let words = [0u32, 4];
     let slice: &[u32] = &words;
     answers(&rt, &slice, [34, 2, 66]);

@@ -75,12 +75,6 @@ impl Compared for u128 {
     }
 }
 
-impl Compared for usize {
-    fn compare(self, wanted: Self, rt: &impl Abort, text: &str) {
-        end_unless_equal(rt, text, self, wanted)
-    }
-}
-
 impl Compared for i8 {
     fn compare(self, wanted: Self, rt: &impl Abort, text: &str) {
         end_unless_equal(rt, text, self, wanted)

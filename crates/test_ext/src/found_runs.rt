@@ -190,7 +190,7 @@ fn flags(row: &[u8; 8], from_left: bool) -> [bool; 64] {
 
 /// Searches from index `from` on, by a loop over the flags. Returns where the first run of `length`
 /// flags that equal `value` begins.
-pub(crate) fn plain_run(flags: &[bool; 64], value: bool, from: u32, length: u32) -> Option<u32> {
+fn plain_run(flags: &[bool; 64], value: bool, from: u32, length: u32) -> Option<u32> {
     if length == 0 {
         return if from <= 64 { Some(from) } else { None };
     }

@@ -1,5 +1,5 @@
 //! Tests of views, such as the intersection that `one.and(other)` returns. The expected values are
-//! worked out by hand, or, for random sets, by loops that test each bit.
+//! worked out by hand.
 
 ghost use Rattle.std.specs.Prelude.{IsTrue};
 ghost use Rattle.bittle.specs.Values.{ShapeFits};
@@ -8,45 +8,8 @@ use crate::calls::{
     BACK, FRONT, Ones, Question, ask_alone, ask_both, ask_either, ask_just_one, taken,
 };
 use crate::checks::same;
-use crate::random::draw;
 use bittle::{Bits, BitsOwned, LittleEndian, Set, Shape};
 use bittle_ext::prelude::*;
-
-// Draws a random word.
-fn draw_word(state: &mut u32) -> u64 {
-    let high = (draw(state) as u64) << 40;
-    high ^ (draw(state) as u64) << 20 ^ draw(state) as u64
-}
-
-// Returns a flag for each bit of a word.
-fn bits_of(word: u64) -> [bool; 64] {
-    let mut bits = [false; 64];
-    for index in 0..64u32 {
-        bits[index as usize] = word >> index & 1 == 1;
-    }
-    bits
-}
-
-// Counts the flags that are `true`.
-fn held(bits: &[bool; 64]) -> u32 {
-    let mut count = 0u32;
-    for bit in bits {
-        if *bit && count < 64 {
-            count += 1;
-        }
-    }
-    count
-}
-
-// Returns the index of the first flag that is `true`.
-fn first(bits: &[bool; 64]) -> Option<u32> {
-    for index in 0..64u32 {
-        if bits[index as usize] {
-            return Some(index);
-        }
-    }
-    None
-}
 
 // The answer to `Reading`: the capacity, how many bits are set, and the first and the last set bit.
 type Read = (u32, u32, [Option<u32>; 2]);
@@ -101,18 +64,6 @@ impl Question for Tested {
     }
 }
 
-// A question: how many items an iterator over the set bits of a view yields.
-#[derive(Drop)]
-struct Walked;
-
-impl Question for Walked {
-    type Answer = u32;
-
-    fn ask<V: View>(&self, view: &V) -> u32 {
-        (*view).into_ones().count() as u32
-    }
-}
-
 // Asks a question of the complement of a set.
 fn ask_unset<B: Bits, Q: Question>(question: &Q, set: &B) -> Q::Answer
     requires { ShapeFits B.Shape set.now }
@@ -157,18 +108,6 @@ fn a_capacity_that_is_rounded_up(rt: HostRuntime) {
     same!(rt; ask_either(&Reading, &word, &bytes), (64, 3, [Some(24), Some(32)]));
     same!(rt; ask_either(&Tested([40, 96]), &word, &bytes), [false, true]);
     same!(rt; ask_just_one(&Reading, &word, &bytes), (64, 2, [Some(24), Some(32)]));
-}
-
-#[test]
-fn two_rows_each_in_its_own_order(rt: HostRuntime) {
-    // `row` has the members 0, 15 and 33, and the little-endian `set` has 0, 33 and 63.
-    let row = [0x8001u16, 0, 2];
-    let set: Set<[u32; 2], LittleEndian> = Set::new_le([0x8000_0000, 0x4000_0001]);
-    let [both, alone] = read_both_and_alone(&row, &set);
-    same!(rt; (both, alone), ((48, 2, [Some(0), Some(33)]), (48, 1, [Some(15), Some(15)])));
-    let [both, alone] = read_both_and_alone(&set, &row);
-    same!(rt; (both, alone), ((64, 2, [Some(0), Some(33)]), (64, 1, [Some(63), Some(63)])));
-    same!(rt; ask_alone(&Tested([63, 0]), &set, &row), [true, false]);
 }
 
 // Asks a question of the union of two sets that have the same word type.
@@ -368,74 +307,4 @@ fn capacity_0_and_a_slice(rt: HostRuntime) {
     same!(rt; ask_both(&Reading, &slice, &words), (320, 1, [Some(0), Some(0)]));
     same!(rt; ask_alone(&Reading, &words, &slice), (384, 1, [Some(383), Some(383)]));
     same!(rt; ask_unset(&Reading, &slice), (320, 319, [Some(1), Some(319)]));
-}
-
-// Counts the common members of `one` and `other`. Also returns the first common member of `one` and
-// `halves`, which are the halves of `other`.
-fn common<A: Bits, B: Bits>(one: &A, other: &A, halves: &B) -> (u32, Option<u32>)
-    requires one_fits { ShapeFits A.Shape one.now }
-    requires other_fits { ShapeFits A.Shape other.now }
-    requires halves_fit { ShapeFits B.Shape halves.now }
-{
-    let (_, count, _) = ask_both(&Reading, one, other);
-    let (_, _, ends) = ask_both(&Reading, one, halves);
-    (count, ends[0])
-}
-
-// Counts the members of the union of `one` and `other`, and the members of `one` that are not
-// members of `halves`, which are the halves of `other`.
-fn either_and_alone<A: Bits, B: Bits>(one: &A, other: &A, halves: &B) -> [u32; 2]
-    requires one_fits { ShapeFits A.Shape one.now }
-    requires other_fits { ShapeFits A.Shape other.now }
-    requires halves_fit { ShapeFits B.Shape halves.now }
-{
-    let (_, either, _) = ask_either_like(&Reading, one, other);
-    let (_, alone, _) = ask_alone(&Reading, one, halves);
-    [either, alone]
-}
-
-// Returns the first unset bit of a word, the first set bit in `3..50`, and how many bits of that
-// range are set.
-fn unset_and_within<B: Bits>(one: &B) -> ([Option<u32>; 2], u32)
-    requires { ShapeFits B.Shape one.now }
-{
-    let (_, _, unset) = ask_unset(&Reading, one);
-    let (_, _, within) = ask_within(&Reading, one, 3, 50);
-    ([unset[0], within[0]], ask_within(&Walked, one, 3, 50))
-}
-
-// Returns the intersection and the union of two words, and the bits that are set only in the first.
-fn of_two(ours: &[bool; 64], theirs: &[bool; 64]) -> ([bool; 64], [bool; 64], [bool; 64]) {
-    let (mut both, mut either, mut alone) = ([false; 64], [false; 64], [false; 64]);
-    for k in 0..64usize {
-        both[k] = ours[k] && theirs[k];
-        either[k] = ours[k] || theirs[k];
-        alone[k] = ours[k] && !theirs[k];
-    }
-    (both, either, alone)
-}
-
-// Returns the complement of a word, and the set bits of the word among bits 3 to 49.
-fn of_one(ours: &[bool; 64]) -> ([bool; 64], [bool; 64]) {
-    let (mut unset, mut low) = ([false; 64], [false; 64]);
-    for k in 0..64usize {
-        unset[k] = !ours[k];
-        low[k] = ours[k] && 3 <= k && k < 50;
-    }
-    (unset, low)
-}
-
-#[test]
-fn drawn_words(rt: HostRuntime) {
-    let mut state = 29;
-    for _ in 0..50u32 {
-        let (one, other) = (draw_word(&mut state), draw_word(&mut state));
-        let (ours, theirs) = (bits_of(one), bits_of(other));
-        let (both, either, alone) = of_two(&ours, &theirs);
-        let (unset, low) = of_one(&ours);
-        let halves = [(other % (1 << 32)) as u32, (other >> 32) as u32];
-        same!(rt; common(&one, &other, &halves), (held(&both), first(&both)));
-        same!(rt; either_and_alone(&one, &other, &halves), [held(&either), held(&alone)]);
-        same!(rt; unset_and_within(&one), ([first(&unset), first(&low)], held(&low)));
-    }
 }

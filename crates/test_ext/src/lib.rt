@@ -12,8 +12,6 @@ mod checked_indexes;
 #[cfg(test)]
 mod checks;
 #[cfg(test)]
-mod combined;
-#[cfg(test)]
 mod copies;
 #[cfg(test)]
 mod found_runs;

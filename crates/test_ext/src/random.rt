@@ -10,7 +10,6 @@ use crate::calls::{
     zeros_in_range,
 };
 use crate::checks::same;
-use crate::rotations::moved;
 use bittle::{Bits, BitsMut, BitsOwned};
 use bittle_ext::prelude::*;
 use std::process::Abort;
@@ -198,9 +197,10 @@ fn drawn_ranges_agree_with_plain_loops(rt: HostRuntime) {
         let row = draw_row(&mut state);
         let (one, other) = (draw(&mut state) % 25, draw(&mut state) % 25);
         let (from, to, zeros) = (one.min(other), one.max(other), turn % 2 == 0);
+        let flags = flags_of(&row);
         let mut expected = [false; 24];
         for i in from as usize..to as usize {
-            expected[i] = row.test_bit(i as u32) != zeros;
+            expected[i] = flags[i] != zeros;
         }
         same!(rt; flags_of(&walked_range(zeros, &row, from, to)), expected);
     }
@@ -248,34 +248,5 @@ fn drawn_runs_agree_with_plain_loops(rt: HostRuntime) {
         }
         let walked = walked_runs(&rt, zeros, &row);
         same!(rt; walked, (firsts, lasts));
-    }
-}
-
-// Returns the flag that is at index `at` after all flags are moved by `by`. `kind` picks the way:
-// rotated down, rotated up, shifted down or shifted up.
-fn flag_after(kind: u32, flags: &[bool; 24], at: usize, by: usize) -> bool
-    requires index { at < 24 }
-    requires distance { by < 50 }
-{
-    match kind {
-        0 => flags[(at + by) % 24],
-        1 => flags[(at + 72 - by) % 24],
-        2 => at + by < 24 && flags[at + by],
-        _ => by <= at && flags[at - by],
-    }
-}
-
-#[test]
-fn drawn_rotations_agree_with_plain_loops(rt: HostRuntime) {
-    let mut state = 17;
-    for _ in 0..2000 {
-        let row = draw_row(&mut state);
-        let (kind, by) = (draw(&mut state) % 4, draw(&mut state) % 50);
-        let flags = flags_of(&row);
-        let mut expected = [false; 24];
-        for i in 0..24usize {
-            expected[i] = flag_after(kind, &flags, i, by as usize);
-        }
-        same!(rt; flags_of(&moved(kind, row, by)), expected);
     }
 }

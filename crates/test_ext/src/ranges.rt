@@ -7,7 +7,7 @@ use crate::calls::{
     BACK, FRONT, ones_in_range, ones_in_range_in, taken, zeros_in_range, zeros_in_range_in,
 };
 use crate::checks::same;
-use bittle::{Bits, BitsOwned, LittleEndian, Set, Shape};
+use bittle::{Bits, BitsOwned, LittleEndian, Set};
 use bittle_ext::prelude::*;
 
 #[test]
@@ -35,29 +35,6 @@ fn a_range_of_a_word_from_the_left(rt: HostRuntime) {
     same!(rt; ones, [Some(2), Some(6), None]);
     let zeros = zeros_in_range_in::<_, LittleEndian, 3>(&word, 1, 5, [FRONT; 3]);
     same!(rt; zeros, [Some(3), Some(4), None]);
-}
-
-/// Returns set bits in two ranges of a pair of sets: in `1..32` in the order of the type, and in
-/// `7..24` in little-endian order. The prover needs less time for a generic `[T; 2]` than for
-/// `[[u8; 2]; 2]`.
-fn ones_in_ranges_of_a_pair<T: BitsOwned>(pair: &[T; 2]) -> [[Option<u32>; 4]; 2]
-    requires { IsTrue ⟦<[T; 2] as Shape>⟧.indexable }
-{
-    let right = ones_in_range(pair, 1, 32, [FRONT, BACK, BACK, FRONT]);
-    let turns = [BACK, FRONT, FRONT, BACK];
-    [
-        right,
-        ones_in_range_in::<_, LittleEndian, 4>(pair, 7, 24, turns),
-    ]
-}
-
-#[test]
-fn both_ends_of_a_range_of_nested_rows(rt: HostRuntime) {
-    // Bits 0, 7, 16 and 31 are set. In little-endian order, these are bits 0, 7, 23 and 24.
-    let rows = [[0x81u8, 0], [0x01, 0x80]];
-    let [right, left] = ones_in_ranges_of_a_pair(&rows);
-    same!(rt; right, [Some(7), Some(31), Some(16), None]);
-    same!(rt; left, [Some(23), Some(7), None, None]);
 }
 
 /// Makes a little-endian set. Returns its first set bit in `8..24` and its last unset bit in

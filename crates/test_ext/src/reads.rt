@@ -5,7 +5,6 @@ ghost use Rattle.bittle.specs.Values.{ShapeFits};
 
 use crate::calls::{counts, counts_in, ends, ranks, ranks_in, selected, selected_in, stand};
 use crate::checks::same;
-use crate::found_runs::plain_run;
 use bittle::prelude::*;
 use bittle::{LittleEndian, Set};
 use bittle_ext::prelude::*;
@@ -56,28 +55,11 @@ fn neighbours_in_a_word(rt: HostRuntime) {
 }
 
 #[test]
-fn neighbours_in_a_full_word(rt: HostRuntime) {
-    same!(rt; neighbours(&255u8, 3), [Some(3), Some(2), None, None]);
-    same!(rt; neighbours(&255u8, 9), [None, Some(7), None, None]);
-}
-
-#[test]
 fn neighbours_from_the_left(rt: HostRuntime) {
     // In little-endian order, bits 2 and 6 are set.
     let view = 0b0010_0010u8.in_order::<LittleEndian>();
     same!(rt; neighbours(&view, 3), [Some(6), Some(2), Some(3), Some(1)]);
     same!(rt; neighbours(&view, 6), [Some(6), Some(2), Some(7), Some(5)]);
-}
-
-#[test]
-fn neighbours_in_other_words(rt: HostRuntime) {
-    // Bits 15 and 24 are set.
-    let row: [u8; 4] = [0, 0x80, 0, 0x01];
-    same!(rt; neighbours(&row, 0), [Some(15), None, Some(0), None]);
-    same!(rt; neighbours(&row, 15), [Some(15), None, Some(16), Some(14)]);
-    same!(rt; neighbours(&row, 16), [Some(24), Some(15), Some(16), Some(14)]);
-    same!(rt; neighbours(&row, 24), [Some(24), Some(15), Some(25), Some(23)]);
-    same!(rt; neighbours(&row, 25), [None, Some(24), Some(25), Some(23)]);
 }
 
 #[test]
@@ -131,51 +113,12 @@ fn counts_of_ranges(rt: HostRuntime) {
     same!(rt; counted(&row.in_order::<LittleEndian>(), 0, 4), (4, 0));
 }
 
-/// Returns whether any bit of a range is set, and whether all are set.
-fn any_and_all<B: Bits>(set: &B, from: u32, to: u32) -> (bool, bool)
-    requires { ShapeFits B.Shape set.now }
-{
-    (set.any_in_range(from, to), set.all_in_range(from, to))
-}
-
-#[test]
-fn any_and_all_of_ranges(rt: HostRuntime) {
-    // Bits 12 to 19 are set.
-    let row: [u16; 2] = [0xF000, 0x000F];
-    same!(rt; any_and_all(&row, 0, 13), (true, false));
-    same!(rt; any_and_all(&row, 0, 12), (false, false));
-    same!(rt; any_and_all(&row, 12, 20), (true, true));
-    same!(rt; any_and_all(&row, 12, 21), (true, false));
-    same!(rt; any_and_all(&row, 5, 5), (false, true));
-    same!(rt; any_and_all(&row, 13, 13), (false, true));
-}
-
-#[test]
-fn any_and_all_of_ranges_from_the_left(rt: HostRuntime) {
-    // In little-endian order, bits 0 to 3 and 28 to 31 are set.
-    let row: [u16; 2] = [0xF000, 0x000F];
-    let view = row.in_order::<LittleEndian>();
-    same!(rt; any_and_all(&view, 0, 4), (true, true));
-    same!(rt; any_and_all(&view, 4, 28), (false, false));
-}
-
 /// Returns where the first run of `length` set bits begins, and where the first run of `length`
 /// unset bits begins.
 fn first_runs<B: Bits>(set: &B, length: u32) -> [Option<u32>; 2]
     requires { ShapeFits B.Shape set.now }
 {
     [set.first_one_run(length), set.first_zero_run(length)]
-}
-
-/// Searches from index `from` on. Returns where the first run of `length` set bits begins, and
-/// where the first run of `length` unset bits begins.
-fn next_runs<B: Bits>(set: &B, from: u32, length: u32) -> [Option<u32>; 2]
-    requires { ShapeFits B.Shape set.now }
-{
-    [
-        set.next_one_run(from, length),
-        set.next_zero_run(from, length),
-    ]
 }
 
 #[test]
@@ -186,42 +129,6 @@ fn first_runs_of_a_word(rt: HostRuntime) {
     same!(rt; first_runs(&pages, 1), [Some(0), Some(1)]);
     same!(rt; first_runs(&pages, 3), [Some(13), Some(1)]);
     same!(rt; first_runs(&pages, 4), [None, None]);
-}
-
-#[test]
-fn runs_of_a_word_from_an_index_on(rt: HostRuntime) {
-    let pages = 0b1110_0100_1001_0001u16;
-    same!(rt; next_runs(&pages, 2, 2), [Some(13), Some(2)]);
-    same!(rt; next_runs(&pages, 3, 2), [Some(13), Some(5)]);
-    same!(rt; next_runs(&pages, 14, 3), [None, None]);
-    same!(rt; next_runs(&pages, 16, 0), [Some(16), Some(16)]);
-    same!(rt; next_runs(&pages, 17, 0), [None, None]);
-}
-
-#[test]
-fn runs_over_words(rt: HostRuntime) {
-    // Bits 7 and 9 to 21 of `row` are unset. Bits 6 to 16 of `ones` are set.
-    let row: [u8; 3] = [0b0111_1111, 0b0000_0001, 0b1100_0000];
-    same!(rt; (first_runs(&row, 2), first_runs(&row, 13)), ([Some(0), Some(9)], [None, Some(9)]));
-    same!(rt; (first_runs(&row, 14), next_runs(&row, 10, 13)), ([None; 2], [None; 2]));
-    let ones: [u8; 3] = [0b1100_0000, 0xFF, 0b0000_0001];
-    same!(rt; (first_runs(&ones, 11), first_runs(&ones, 12)), ([Some(6), None], [None; 2]));
-}
-
-#[test]
-fn runs_over_words_from_the_left(rt: HostRuntime) {
-    // In little-endian order, bits 0, 1, 8 to 15 and 23 are set.
-    let ones: [u8; 3] = [0b1100_0000, 0xFF, 0b0000_0001];
-    let view = ones.in_order::<LittleEndian>();
-    same!(rt; first_runs(&view, 6), [Some(8), Some(2)]);
-    same!(rt; first_runs(&view, 8), [Some(8), None]);
-}
-
-#[test]
-fn runs_over_no_word(rt: HostRuntime) {
-    let none: [u64; 0] = [];
-    same!(rt; first_runs(&none, 0), [Some(0), Some(0)]);
-    same!(rt; first_runs(&none, 1), [None, None]);
 }
 
 /// Returns the bits of `N` bytes as flags, by a loop over the bits. The flags past the bytes are
@@ -275,9 +182,9 @@ fn plain_prev(bits: &[bool; 64], to: u32, value: bool) -> Option<u32> {
     found
 }
 
-/// Checks that the calls on a set of 64 bits return what `plain_next`, `plain_prev`, `plain_rank`
-/// and `plain_run` return for the bits of the set.
-fn read_as_plain<B: Bits>(rt: &impl Abort, set: &B, bits: &[bool; 64], from: u32, length: u32)
+/// Checks that the calls on a set of 64 bits return what `plain_next`, `plain_prev` and
+/// `plain_rank` return for the bits of the set.
+fn read_as_plain<B: Bits>(rt: &impl Abort, set: &B, bits: &[bool; 64], from: u32)
     requires { ShapeFits B.Shape set.now }
 {
     same!(*rt; set.next_one(from), plain_next(bits, from, true));
@@ -285,7 +192,6 @@ fn read_as_plain<B: Bits>(rt: &impl Abort, set: &B, bits: &[bool; 64], from: u32
     same!(*rt; set.prev_one(from), plain_prev(bits, from, true));
     same!(*rt; set.prev_zero(from), plain_prev(bits, from, false));
     same!(*rt; set.rank(from), plain_rank(bits, from));
-    same!(*rt; set.next_zero_run(from, length), plain_run(bits, false, from, length));
     if let Some(index) = set.next_one(from) {
         same!(*rt; set.select(plain_rank(bits, index)), Some(index));
     }
@@ -307,9 +213,8 @@ fn random_rows_are_read_as_plain_arrays(rt: HostRuntime) {
         let bits = plain(&row);
         state = step(state);
         let from = (state >> 33) as u32 % 70;
-        let length = (state >> 40) as u32 % 9 + 1;
-        read_as_plain(&rt, &row, &bits, from, length);
-        read_as_plain(&rt, &word, &bits, from, length);
+        read_as_plain(&rt, &row, &bits, from);
+        read_as_plain(&rt, &word, &bits, from);
     }
 }
 
@@ -339,18 +244,6 @@ fn relations_of_like_words(rt: HostRuntime) {
     same!(rt; stand(&long, &short), ([false, true, false, true], [Some(0), Some(64)]));
     let other: [u32; 1] = [2];
     same!(rt; stand(&long, &other), ([false, false, true, false], [None, Some(0)]));
-}
-
-#[test]
-fn relations_in_each_order(rt: HostRuntime) {
-    // In little-endian order, `byte` and `word` each have one set bit, at index 0.
-    let (byte, word) = (0x80u8, 0x8000u16);
-    let (left, right) = (
-        byte.in_order::<LittleEndian>(),
-        word.in_order::<LittleEndian>(),
-    );
-    same!(rt; stand(&left, &right), ([true, true, false, true], [Some(0), None]));
-    same!(rt; stand(&byte, &word), ([false, false, true, false], [None, Some(7)]));
 }
 
 #[test]

@@ -6,7 +6,7 @@ ghost use Rattle.std.specs.Prelude.{◌<◌, IsTrue};
 use crate::between::turned;
 use crate::checks::{holds, same};
 use bittle::prelude::*;
-use bittle::{BigEndian, BitsOwned, Endian, LittleEndian, Set, Shape};
+use bittle::{BigEndian, BitsOwned, Endian, LittleEndian, Set};
 use bittle_ext::prelude::*;
 use std::process::Abort;
 
@@ -63,9 +63,6 @@ fn distances_past_the_capacity(rt: HostRuntime) {
 fn words_of_other_types(rt: HostRuntime) {
     same!(rt; moved(1, i16::MIN, 1), 1);
     same!(rt; moved(2, -1i16, 1), i16::MAX);
-    same!(rt; moved(0, 3u128, 1), 0x8000_0000_0000_0000_0000_0000_0000_0001);
-    same!(rt; moved(3, 1u128, 64), 0x1_0000_0000_0000_0000);
-    same!(rt; moved(2, 6usize, 1), 3);
 }
 
 #[test]
@@ -84,39 +81,6 @@ fn a_row_from_the_left(rt: HostRuntime) {
     let rows = moved_each_way_in::<_, LittleEndian>([0x81u8, 0, 0x80], [1, 9, 7, 9]);
     same!(rt; (rows[0], rows[1]), ([0x02, 0x01, 0x01], [0x40, 0x40, 0x80]));
     same!(rt; (rows[2], rows[3]), ([0x80, 0x40, 0], [0, 0x40, 0x80]));
-}
-
-// Compares the calls on a pair of sets with the loop, and returns what `moved_each_way` returns.
-// The prover needs less time for a generic `[T; 2]` than for `[[u16; 2]; 2]`.
-fn agree_pair<T: BitsOwned>(rt: &impl Abort, width: u32, pair: [T; 2], by: [u32; 4]) -> [[T; 2]; 4]
-    requires { IsTrue ⟦<[T; 2] as Shape>⟧.indexable }
-{
-    agree(rt, width, pair);
-    moved_each_way(pair, by)
-}
-
-#[test]
-fn nested_rows(rt: HostRuntime) {
-    // Bits 0 and 63 are set.
-    let rows = agree_pair(&rt, 16, [[1u16, 0], [0, 0x8000]], [33, 17, 48, 1]);
-    same!(rt; (rows[0][0], rows[0][1]), ([0, 0xC000], [0, 0]));
-    same!(rt; (rows[1][0], rows[1][1]), ([0, 3], [0, 0]));
-    same!(rt; (rows[2][0], rows[2][1]), ([0x8000, 0], [0, 0]));
-    same!(rt; (rows[3][0], rows[3][1]), ([2, 0], [0, 0]));
-    let pair = [[0x8003u16, 0x1234], [0xFEDC, 0x4001]];
-    let rows = agree_pair(&rt, 16, pair, [0; 4]);
-    same!(rt; (rows[3][0], rows[3][1]), (pair[0], pair[1]));
-}
-
-#[test]
-fn sets(rt: HostRuntime) {
-    // Bits 0 and 47 are set: of `left` in little-endian order, and of `right` in big-endian order.
-    let left = [0x8000u16, 0, 1];
-    same!(rt; moved_in::<_, LittleEndian>(1, left, 1), [0xC000, 0, 0]);
-    same!(rt; moved_in::<_, LittleEndian>(2, left, 16), [0, 1, 0]);
-    let right = [1u16, 0, 0x8000];
-    same!(rt; moved_in::<_, BigEndian>(0, right, 16), [0, 0x8000, 1]);
-    same!(rt; moved_in::<_, BigEndian>(3, right, 33), [0, 0, 2]);
 }
 
 // Returns the index to which the call that `way` selects in `moved` moves the bit at `index`, or
@@ -167,7 +131,7 @@ fn moved_in<B: BitsOwned, E: Endian>(way: u32, set: B, by: u32) -> B
 
 // Returns `set` with its bits moved by `by` indexes, in the order of the type. `way` selects one of
 // four calls.
-pub(crate) fn moved<B: BitsOwned>(way: u32, set: B, by: u32) -> B
+fn moved<B: BitsOwned>(way: u32, set: B, by: u32) -> B
     requires { IsTrue B.indexable }
 {
     match way {
@@ -180,7 +144,7 @@ pub(crate) fn moved<B: BitsOwned>(way: u32, set: B, by: u32) -> B
 
 // Rotates a set in place, down if `way` is 0, else up, and returns the set. Indexes follow the bit
 // order `E`.
-pub(crate) fn turned_in<B: BitsOwned, E: Endian>(way: u32, set: B, by: u32) -> B
+fn turned_in<B: BitsOwned, E: Endian>(way: u32, set: B, by: u32) -> B
     requires { IsTrue B.indexable }
 {
     turned(way != 0, Set::<B, E>::new_in(set), by).into_bits()
@@ -212,15 +176,8 @@ fn agree_at<B: BitsOwned>(rt: &impl Abort, set: B, by: u32)
     }
 }
 
-// Returns whether a set that is rotated up and then down is the same as before.
-fn comes_back<B: BitsOwned, E: Endian>(set: B, by: u32) -> bool
-    requires { IsTrue B.indexable }
-{
-    moved_in::<B, E>(0, moved_in::<B, E>(1, set, by), by) == set
-}
-
 // Does the same as `agree_at` and `agree_in_place`, for distances near the width of a word and near
-// the capacity. Also checks `comes_back`.
+// the capacity.
 fn agree<B: BitsOwned>(rt: &impl Abort, width: u32, set: B)
     requires { IsTrue B.indexable }
 {
@@ -238,48 +195,19 @@ fn agree<B: BitsOwned>(rt: &impl Abort, width: u32, set: B)
     ] {
         agree_at(rt, set, by);
         agree_in_place(rt, set, by);
-        crate::checks::ask(rt, "LE comes back", comes_back::<B, LittleEndian>(set, by));
-        crate::checks::ask(rt, "BE comes back", comes_back::<B, BigEndian>(set, by));
     }
 }
 
 #[test]
 fn words_agree_with_a_loop(rt: HostRuntime) {
     agree(&rt, 8, 0b1001_0110u8);
-    agree(&rt, 16, -0x5A93i16);
     agree(&rt, 128, 0x8001_0203_0405_0607_F8F9_FAFB_FCFD_FE01u128);
-    agree(&rt, usize::BITS, 0x8F03usize);
 }
 
 #[test]
 fn rows_agree_with_a_loop(rt: HostRuntime) {
     agree(&rt, 8, [0xC5u8, 0x3A, 0x91]);
     agree(&rt, 64, [0x8000_0000_0000_0003u64, 0xF0F0_1234_5678_9ABD]);
-}
-
-#[test]
-fn rows_of_other_words_agree_with_a_loop(rt: HostRuntime) {
-    // The words of this row have 8 bits. The argument 16 makes distances near the width of two.
-    agree(&rt, 16, [0xC5u8, 0x3A, 0x91, 0x07, 0xE8]);
-    agree(&rt, 64, [0x8F00_0000_0000_0005u64]);
-    agree(
-        &rt,
-        128,
-        [3u128, 0xC000_0000_0000_0000_0000_0000_0000_0001, 5],
-    );
-}
-
-// Does the same as `agree` for a set in the order `E`.
-fn agree_in<B: BitsOwned, E: Endian>(rt: &impl Abort, width: u32, bits: B)
-    requires { IsTrue B.indexable }
-{
-    agree(rt, width, Set::<B, E>::new_in(bits));
-}
-
-#[test]
-fn sets_agree_with_a_loop(rt: HostRuntime) {
-    agree_in::<_, LittleEndian>(&rt, 16, [0xC001u16, 0x1234, 0xF08D]);
-    agree_in::<_, BigEndian>(&rt, 16, [0xC001u16, 0x1234, 0xF08D]);
 }
 
 #[test]

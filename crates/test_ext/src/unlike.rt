@@ -1,6 +1,6 @@
 //! Tests of iterators over the union, intersection, difference and symmetric difference of two sets
 //! whose words differ in width or in bit order. The expected values are worked out by hand, or, for
-//! random sets, by a test of each bit.
+//! random sets, by plain operators on two words of 64 bits.
 
 ghost use Rattle.std.specs.Prelude.{◌<◌, max};
 ghost use Rattle.bittle_ext.specs.Views.{rounded_up};
@@ -10,8 +10,8 @@ use crate::calls::{
     ALONE, BACK, COMMON, FRONT, UNION, UNLIKE, combination, combines, set_of, union_in,
 };
 use crate::checks::same;
-use crate::random::{combined, draw};
-use bittle::{Bits, BitsMut, LittleEndian, Set};
+use crate::random::draw;
+use bittle::{Bits, LittleEndian, Set};
 use bittle_ext::prelude::*;
 use std::process::Abort;
 
@@ -150,18 +150,17 @@ fn walked<A: Bits, B: Bits>(kind: u32, one: &A, other: &B) -> [u64; 2]
     set_of(combination(kind, one, other, turns))
 }
 
-// Makes the same set as `walked`, by a test of each bit of both sets.
-fn tested<A: Bits, B: Bits>(kind: u32, one: &A, other: &B) -> [u64; 2]
-    requires one_fits { ShapeFits A.Shape one.now }
-    requires other_fits { ShapeFits B.Shape other.now }
-{
+// Makes the set that `walked` should make, by plain operators. Bit `i` of the two words of a set is
+// bit `i % 64` of its word `i / 64`.
+fn plain(kind: u32, ours: [u64; 2], theirs: [u64; 2]) -> [u64; 2] {
     let mut made = [0u64; 2];
-    for i in 0..128u32 {
-        let ours = i < one.bits_capacity() && one.test_bit(i);
-        let theirs = i < other.bits_capacity() && other.test_bit(i);
-        if combined(kind, ours, theirs) {
-            made.set_bit(i);
-        }
+    for k in 0..2usize {
+        made[k] = match kind {
+            UNION => ours[k] | theirs[k],
+            COMMON => ours[k] & theirs[k],
+            ALONE => ours[k] & !theirs[k],
+            _ => ours[k] ^ theirs[k],
+        };
     }
     made
 }
@@ -171,9 +170,16 @@ fn draw_word(state: &mut u32) -> u64 {
     u64::from(draw(state)) << 40 ^ u64::from(draw(state)) << 20 ^ u64::from(draw(state))
 }
 
-// Checks that `walked` and `tested` make the same set, both for `one` combined with `other` and for
-// `other` combined with `one`.
-fn agree<A: Bits, B: Bits>(rt: &impl Abort, kind: u32, one: &A, other: &B)
+// Checks that `walked` and `plain` make the same set, both for `one` combined with `other` and for
+// `other` combined with `one`. `ours` and `theirs` have the bits of `one` and of `other`.
+fn agree<A: Bits, B: Bits>(
+    rt: &impl Abort,
+    kind: u32,
+    one: &A,
+    other: &B,
+    ours: [u64; 2],
+    theirs: [u64; 2],
+)
     requires one_fits { ShapeFits A.Shape one.now }
     requires other_fits { ShapeFits B.Shape other.now }
     requires rounded { rounded_up (max (A.big one.now).capacity (B.big other.now).capacity) A.width
@@ -181,23 +187,26 @@ fn agree<A: Bits, B: Bits>(rt: &impl Abort, kind: u32, one: &A, other: &B)
     requires turned { rounded_up (max (B.big other.now).capacity (A.big one.now).capacity) B.width
         < 4294967295 }
 {
-    same!(*rt; walked(kind, one, other), tested(kind, one, other));
-    same!(*rt; walked(kind, other, one), tested(kind, other, one));
+    same!(*rt; walked(kind, one, other), plain(kind, ours, theirs));
+    same!(*rt; walked(kind, other, one), plain(kind, theirs, ours));
 }
 
 #[test]
-fn drawn_unlike_sets_agree_with_tests_of_each_bit(rt: HostRuntime) {
+fn drawn_unlike_sets_agree_with_plain_operators(rt: HostRuntime) {
     let mut state = 17;
     for turn in 0..1000u32 {
         let kind = turn % 4;
         let byte = (draw(&mut state) % 256) as u8;
         let row = [draw_word(&mut state), draw_word(&mut state)];
-        let set: Set<[u32; 2], LittleEndian> = Set::new_le([draw(&mut state), draw(&mut state)]);
-        let mut words = [0u16; 3];
-        for k in 0..3usize {
-            words[k] = (draw(&mut state) % 65536) as u16;
-        }
-        agree(&rt, kind, &byte, &row);
-        agree(&rt, kind, &words, &set);
+        agree(&rt, kind, &byte, &row, [u64::from(byte), 0], row);
+        let (low, high) = (draw(&mut state), draw(&mut state));
+        let set: Set<[u32; 2], LittleEndian> = Set::new_le([low, high]);
+        // In little-endian order, bit 0 of a word is its highest bit.
+        let left = u64::from(low.reverse_bits()) ^ u64::from(high.reverse_bits()) << 32;
+        let one = (draw(&mut state) % 65536) as u16;
+        let two = (draw(&mut state) % 65536) as u16;
+        let three = (draw(&mut state) % 65536) as u16;
+        let right = u64::from(one) ^ u64::from(two) << 16 ^ u64::from(three) << 32;
+        agree(&rt, kind, &[one, two, three], &set, [right, 0], [left, 0]);
     }
 }

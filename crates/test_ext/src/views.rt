@@ -4,7 +4,7 @@
 ghost use Rattle.std.specs.Prelude.{IsTrue};
 ghost use Rattle.bittle.specs.Values.{ShapeFits};
 
-use crate::calls::{BACK, Change, FRONT, change_in};
+use crate::calls::{Change, change_in};
 use crate::checks::{holds, same};
 use bittle::prelude::*;
 use bittle::{BigEndian, Bits, BitsMut, Endian, LittleEndian, Set};
@@ -76,28 +76,6 @@ fn capacity_0_is_read(rt: HostRuntime) {
     holds!(rt; view.all_zeros() && view.all_ones());
 }
 
-/// Returns a number whose decimal digits are the indexes that a `for` loop over the set bits
-/// yields. Then returns what another iterator yields once from its back and twice from its front.
-fn iterated<B: Bits>(bits: &B) -> (u32, [Option<u32>; 3])
-    requires { ShapeFits B.Shape bits.now }
-{
-    let mut digits = 0u32;
-    for index in bits.iter_ones() {
-        digits = digits.wrapping_mul(10).wrapping_add(index);
-    }
-    let items = crate::calls::taken(&mut bits.iter_ones(), [BACK, FRONT, FRONT]);
-    (digits, items)
-}
-
-#[test]
-fn a_view_is_iterated_from_both_ends(rt: HostRuntime) {
-    // In little-endian order, bits 1, 2 and 6 are set.
-    let view = 0b0110_0010u8.in_order::<LittleEndian>();
-    let (digits, items) = iterated(&view);
-    same!(rt; digits, 126);
-    same!(rt; items, [Some(6), Some(1), Some(2)]);
-}
-
 /// A change that flips bit 1, sets bit 0 and clears bit 3. The answer is what `insert` and `remove`
 /// return, and how many bits are set afterwards.
 #[derive(Drop)]
@@ -156,48 +134,6 @@ fn the_words_of_a_lent_slice_hold_the_changes(rt: HostRuntime) {
 fn capacity_0_is_changed_by_nothing(rt: HostRuntime) {
     let mut none: [u8; 0] = [];
     same!(rt; changed::<_, LittleEndian>(&mut none), ([true, false], 0));
-}
-
-/// A change that takes out the first and the last set bit, sets bits 1 and 2, and flips every bit.
-/// The answer is the indexes of the two bits that were taken out.
-#[derive(Drop)]
-struct Whole;
-
-impl Change for Whole {
-    type Answer = [Option<u32>; 2];
-
-    fn change<B: BitsMut>(&self, bits: &mut B) -> [Option<u32>; 2] {
-        let ends = [bits.pop_first(), bits.pop_last()];
-        bits.extend([1u32, 2].iter().copied());
-        bits.complement_assign();
-        ends
-    }
-}
-
-/// Makes the changes of `Whole` through a view in the order `E`.
-fn taken<B: BitsMut, E: Endian>(bits: &mut B) -> [Option<u32>; 2]
-    requires fits { ShapeFits B.Shape bits.old }
-    requires indexable { IsTrue B.indexable }
-{
-    change_in::<B, E, _>(&Whole, bits)
-}
-
-/// Clears each bit through a view in the order `E`.
-fn clear<B: BitsMut, E: Endian>(bits: &mut B)
-    requires { ShapeFits B.Shape bits.old }
-{
-    bits.in_order_mut::<E>().clear_bits();
-}
-
-#[test]
-fn a_view_is_changed_as_a_whole(rt: HostRuntime) {
-    // In little-endian order, bits 3, 8 and 15 are set.
-    let mut row = [0x10u8, 0x81];
-    same!(rt; taken::<_, LittleEndian>(&mut row), [Some(3), Some(15)]);
-    same!(rt; row, [0x9F, 0x7F]);
-    let mut word = 0b0110_0000u8;
-    clear::<_, LittleEndian>(&mut word);
-    same!(rt; word, 0);
 }
 
 #[test]

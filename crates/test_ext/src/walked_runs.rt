@@ -1,11 +1,10 @@
 //! Tests of iterators over the maximal runs of a set, with expected values worked out by hand.
 
-ghost use Rattle.std.specs.Prelude.{IsTrue};
 ghost use Rattle.bittle.specs.Values.{ShapeFits};
 
 use crate::calls::{BACK, FRONT, one_runs, runs_taken, zero_runs};
 use crate::checks::same;
-use bittle::{Bits, BitsOwned, LittleEndian, Set, Shape};
+use bittle::{Bits, LittleEndian};
 use bittle_ext::prelude::*;
 
 #[test]
@@ -24,43 +23,12 @@ fn the_runs_of_a_word(rt: HostRuntime) {
     same!(rt; left, [Some((0, 1)), Some((3, 6)), Some((7, 8))]);
 }
 
-/// Returns runs of set bits and runs of unset bits of a pair of sets. The prover needs less time
-/// for a generic `[T; 2]` than for `[[u8; 2]; 2]`.
-fn runs_of_pair<T: BitsOwned>(pair: [T; 2]) -> ([Option<(u32, u32)>; 4], [Option<(u32, u32)>; 3])
-    requires { IsTrue ⟦<[T; 2] as Shape>⟧.indexable }
-{
-    (
-        one_runs(&pair, [BACK, BACK, BACK, FRONT]),
-        zero_runs(&pair, [FRONT, BACK, FRONT]),
-    )
-}
-
 #[test]
-fn runs_across_the_words_of_nested_rows(rt: HostRuntime) {
-    // Bits 7 to 16 and 31 are set.
-    let (ones, zeros) = runs_of_pair([[0x80u8, 0xFF], [0x01, 0x80]]);
-    same!(rt; ones, [Some((31, 32)), Some((7, 17)), None, None]);
-    same!(rt; zeros, [Some((0, 7)), Some((17, 31)), None]);
-}
-
-/// Makes a little-endian set. Returns its first three runs of set bits, and its last run of unset
-/// bits.
-fn runs_of_left<T: BitsOwned>(left: T) -> ([Option<(u32, u32)>; 3], [Option<(u32, u32)>; 1])
-    requires { IsTrue T.indexable }
-{
-    let set = Set::new_le(left);
-    (one_runs(&set, [FRONT; 3]), zero_runs(&set, [BACK]))
-}
-
-#[test]
-fn runs_of_a_slice_and_of_a_set(rt: HostRuntime) {
-    // Bits 7 and 8 are set. In little-endian order, these are bits 0 and 15.
+fn runs_of_a_slice(rt: HostRuntime) {
+    // Bits 7 and 8 are set.
     let bytes = [0x80u8, 0x01];
     let row: &[u8] = &bytes[..];
     same!(rt; one_runs(&row, [FRONT, BACK]), [Some((7, 9)), None]);
-    let (ones, zeros) = runs_of_left(bytes);
-    same!(rt; ones, [Some((0, 1)), Some((15, 16)), None]);
-    same!(rt; zeros, [Some((1, 15))]);
 }
 
 #[test]
