@@ -78,6 +78,7 @@ pub trait Bits: Drop + ReadWords {
         ensures value { result ≡ (Self.big self.now).capacity - size (Self.big self.now) }
         ensures in_each_order { (mirrored : Bool) → result
             ≡ (Self.big self.now).capacity - size (set_mirrored Self.Shape mirrored self.now) }
+        ensures at_most { result ≤ (Self.big self.now).capacity }
     {
         self.bits_capacity() - self.count_ones()
     }

@@ -58,6 +58,8 @@ pub trait BitsMut: Bits {
     /// ```
     fn clear_bits(&mut self)
         ensures set { Self.big self.new ≡ without_members (Self.big self.old) }
+        ensures in_each_order { (mirrored : Bool) → set_mirrored Self.Shape mirrored self.new
+            ≡ without_members (set_mirrored Self.Shape mirrored self.old) }
         ensures stays { Self.loan self.old ≡ Self.loan self.new };
 
     /// Changes each bit with an index in `from..to` by the operation `O`: `Union` sets these bits,
@@ -154,9 +156,9 @@ pub trait BitsMut: Bits {
 
     /// Sets each bit that is set in `other`.
     ///
-    /// Always callable. It does the same in both orders. Each word is read and written once.
-    /// Between two slices of unequal length, elements past the end of the shorter slice do not
-    /// change. With capacity 0 nothing changes.
+    /// Always callable. It does the same in both orders. Each word of the set is read and written
+    /// once, and `other` is only read. Between two slices of unequal length, elements past the end
+    /// of the shorter slice do not change. With capacity 0 nothing changes.
     ///
     /// ```
     /// let mut word = 0b0011u8;
