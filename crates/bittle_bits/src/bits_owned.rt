@@ -275,7 +275,7 @@ pub trait BitsOwned: Copy + Eq + BitsMut + FixedCapacity {
     final fn into_iter_ones_in<E: Endian>(self) -> IntoIterOnes<Self, E>
     where
         Self: Sized,
-        requires { ShapeFits Self.Shape self }
+        requires { IsTrue Self.indexable }
         ensures remaining { result.remaining ≡ ascending (set_in Self.Shape E.Endian self) }
         ensures fresh { IsFresh (word_count Self.Shape self) result }
         ensures below { AreBelow (Self.big self).capacity result.remaining }
@@ -293,7 +293,7 @@ pub trait BitsOwned: Copy + Eq + BitsMut + FixedCapacity {
     final fn into_iter_ones(self) -> IntoIterOnes<Self, Self::Order>
     where
         Self: Sized,
-        requires { ShapeFits Self.Shape self }
+        requires { IsTrue Self.indexable }
         ensures remaining { result.remaining
             ≡ ascending (set_in Self.Shape Self.Order.Endian self) }
         ensures fresh { IsFresh (word_count Self.Shape self) result }
@@ -312,7 +312,7 @@ pub trait BitsOwned: Copy + Eq + BitsMut + FixedCapacity {
     final fn into_iter_ones_le(self) -> IntoIterOnes<Self, LittleEndian>
     where
         Self: Sized,
-        requires { ShapeFits Self.Shape self }
+        requires { IsTrue Self.indexable }
         ensures remaining { result.remaining
             ≡ ascending (set_in Self.Shape ⟦<LittleEndian as Endian>⟧ self) }
         ensures fresh { IsFresh (word_count Self.Shape self) result }
@@ -331,7 +331,7 @@ pub trait BitsOwned: Copy + Eq + BitsMut + FixedCapacity {
     final fn into_iter_ones_be(self) -> IntoIterOnes<Self, BigEndian>
     where
         Self: Sized,
-        requires { ShapeFits Self.Shape self }
+        requires { IsTrue Self.indexable }
         ensures remaining { result.remaining
             ≡ ascending (set_in Self.Shape ⟦<BigEndian as Endian>⟧ self) }
         ensures fresh { IsFresh (word_count Self.Shape self) result }
@@ -354,7 +354,7 @@ pub trait BitsOwned: Copy + Eq + BitsMut + FixedCapacity {
     final fn into_iter_zeros_in<E: Endian>(self) -> IntoIterZeros<Self, E>
     where
         Self: Sized,
-        requires { ShapeFits Self.Shape self }
+        requires { IsTrue Self.indexable }
         ensures remaining { result.remaining
             ≡ ascending (complement (set_in Self.Shape E.Endian self)) }
         ensures fresh { IsFresh (word_count Self.Shape self) result }
@@ -373,7 +373,7 @@ pub trait BitsOwned: Copy + Eq + BitsMut + FixedCapacity {
     final fn into_iter_zeros(self) -> IntoIterZeros<Self, Self::Order>
     where
         Self: Sized,
-        requires { ShapeFits Self.Shape self }
+        requires { IsTrue Self.indexable }
         ensures remaining { result.remaining
             ≡ ascending (complement (set_in Self.Shape Self.Order.Endian self)) }
         ensures fresh { IsFresh (word_count Self.Shape self) result }
@@ -392,7 +392,7 @@ pub trait BitsOwned: Copy + Eq + BitsMut + FixedCapacity {
     final fn into_iter_zeros_le(self) -> IntoIterZeros<Self, LittleEndian>
     where
         Self: Sized,
-        requires { ShapeFits Self.Shape self }
+        requires { IsTrue Self.indexable }
         ensures remaining { result.remaining
             ≡ ascending (complement (set_in Self.Shape ⟦<LittleEndian as Endian>⟧ self)) }
         ensures fresh { IsFresh (word_count Self.Shape self) result }
@@ -411,7 +411,7 @@ pub trait BitsOwned: Copy + Eq + BitsMut + FixedCapacity {
     final fn into_iter_zeros_be(self) -> IntoIterZeros<Self, BigEndian>
     where
         Self: Sized,
-        requires { ShapeFits Self.Shape self }
+        requires { IsTrue Self.indexable }
         ensures remaining { result.remaining
             ≡ ascending (complement (set_in Self.Shape ⟦<BigEndian as Endian>⟧ self)) }
         ensures fresh { IsFresh (word_count Self.Shape self) result }
