@@ -10,7 +10,7 @@ use Rattle.bittle_bits.specs.Decided.{NoneDecidedBelow, IsFirstDecided}
 use Rattle.bittle_bits.specs.PlainSet.{PlainSet, ascending}
 use Rattle.bittle_bits.specs.Searches.{IsFirstIn}
 use Rattle.bittle_bits.specs.SetOperations.{just_one}
-use Rattle.bittle.specs.Comparison.{list_cmp, AreSame, AreSameBelow, GoesOn, HasPast, HasNonePast, Precedes, IsFirstDifference, IsDifference}
+use Rattle.bittle.specs.Comparison.{list_cmp, AreSame, AreSameBelow, GoesOn, HasPast, HasNonePast, Precedes, IsFirstDifference, TellsFirstDifference}
 use Rattle.bittle.proofs.ListComparison.{EndsAtCapacity, list_cmp-precedes, equal_iff_same, not_both}
 
 alike : (a b : Bool) → just_one a b ≡ false → a ≡ b
@@ -21,7 +21,7 @@ alike a b h = grind arith
 -- if a search below n finds the least number that is in just one set, it is the first difference
 pub some_among : (s t : PlainSet) (n : ℕ) (r : Option ℕ) → is_some r ≡ true →
     MatchOption r (NoneDecidedBelow just_one s t n) (IsFirstDecided just_one s t) →
-    IsDifference s t r
+    TellsFirstDifference s t r
 some_among s t n None e h = absurd (true≢false (sym e))
 some_among s t n (Some d) e h = h
 
@@ -38,7 +38,7 @@ none_among s t n (Some d) e h = absurd (true≢false e)
 -- finds the difference
 past_first : (s t : PlainSet) (from to : ℕ) (r : Option ℕ) → NoneDecidedBelow just_one s t from →
     ((i : ℕ) → from ≤ i → s.has i ≡ false) → ((i : ℕ) → to ≤ i → t.has i ≡ false) →
-    IsFirstIn t from to r → IsDifference s t r
+    IsFirstIn t from to r → TellsFirstDifference s t r
 past_first s t from to None same none past h = λ i.
     elim (cases_lt i from) [
       | inl l ↦ alike _ _ (same i l)
@@ -56,11 +56,11 @@ turned a b = grind arith
 -- finds the difference
 past_second : (s t : PlainSet) (from to : ℕ) (r : Option ℕ) → NoneDecidedBelow just_one s t from →
     ((i : ℕ) → from ≤ i → t.has i ≡ false) → ((i : ℕ) → to ≤ i → s.has i ≡ false) →
-    IsFirstIn s from to r → IsDifference s t r
+    IsFirstIn s from to r → TellsFirstDifference s t r
 past_second s t from to r same none past h =
     back r (past_first t s from to r (λ i p. turned (t.has i) (s.has i) ∙ same i p) none past h)
   where
-    back : (r : Option ℕ) → IsDifference t s r → IsDifference s t r
+    back : (r : Option ℕ) → TellsFirstDifference t s r → TellsFirstDifference s t r
     back None e = λ i. sym (e i)
     back (Some d) e = (
       (λ i p. turned (s.has i) (t.has i) ∙ e.0 i p),
@@ -77,13 +77,13 @@ pub record AreAlikeInCommon (s t : PlainSet) : Type 0 where
 module _ (s t : PlainSet) (both : AreAlikeInCommon s t) where
   -- if the second set is longer, its first member past the end of the first set is the difference
   pub first_ends : s.capacity < t.capacity → (r : Option ℕ) →
-      IsFirstIn t s.capacity t.capacity r → IsDifference s t r
+      IsFirstIn t s.capacity t.capacity r → TellsFirstDifference s t r
   first_ends h r found = past_first s t s.capacity t.capacity r
       (λ i l. both.same i (omega (arith, h))) both.first both.second found
 
   -- if the first set is longer, its first member past the end of the second set is the difference
   pub second_ends : t.capacity < s.capacity → (r : Option ℕ) →
-      IsFirstIn s t.capacity s.capacity r → IsDifference s t r
+      IsFirstIn s t.capacity s.capacity r → TellsFirstDifference s t r
   second_ends h r found = past_second s t t.capacity s.capacity r
       (λ i l. both.same i (omega (arith, h))) both.second both.first found
 
@@ -181,7 +181,7 @@ module _ (s t : PlainSet) (ends_s : EndsAtCapacity s) (ends_t : EndsAtCapacity t
   cmp_decided o h = both o _ h (list_cmp-precedes s t ends_s ends_t)
 
   -- the lists are equal exactly if no index is in just one set
-  pub none_equal : (r : Option ℕ) → IsDifference s t r →
+  pub none_equal : (r : Option ℕ) → TellsFirstDifference s t r →
       is_none r ≡ is_eq (list_cmp (ascending s) (ascending t))
   none_equal None h = ap is_eq (cmp_decided Equal h)
   none_equal (Some d) h = sym (false_from_ne_true _ (λ e. differ _ _ h.1
@@ -193,7 +193,7 @@ none_is r true e = sym (ap not e)
 none_is r false e = sym (ap not e)
 
 -- no index is in just one set exactly if the two sets are the same
-pub none_decides : (s t : PlainSet) (r : Option ℕ) → IsDifference s t r →
+pub none_decides : (s t : PlainSet) (r : Option ℕ) → TellsFirstDifference s t r →
     IsTrue (is_none r) ↔ AreSame s t
 none_decides s t None h = (λ x. h, λ y. refl)
 none_decides s t (Some d) h = (λ x. absurd (true≢false (sym x)), λ y. absurd (differ _ _ h.1 (y d)))

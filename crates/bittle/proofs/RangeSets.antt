@@ -8,7 +8,7 @@ use Rattle.std.specs.Bool.{one_answer}
 use Rattle.bittle_bits.specs.PlainSet.{PlainSet, has_with, empty_set, with_index, with_span}
 use Rattle.bittle_bits.proofs.PlainSets.{plain_set}
 use Rattle.bittle_bits.proofs.Spans.{changed-none, with_span-more}
-use Rattle.bittle.specs.Ranges.{some_below, has_with_range, with_range, listed_set}
+use Rattle.bittle.specs.Ranges.{some_below, has_with_wrapped_range, with_wrapped_range, listed_set}
 
 some_below-found : (n : ℕ) (p : ℕ → Bool) → some_below n p ≡ true → (i : ℕ) × (i < n) × (p i ≡ true)
 unfolding some_below
@@ -47,9 +47,9 @@ module _ (s : PlainSet) (from : ℕ) where
   reaches k i = nat_le from i && (k == i % s.capacity)
 
   -- a range whose end is not past its start adds nothing
-  pub with_range-none : (end : ℕ) → end ≤ from → with_range s from end ≡ s
-  unfolding has_with_range
-  with_range-none end h = ap (plain_set s.capacity)
+  pub with_wrapped_range-none : (end : ℕ) → end ≤ from → with_wrapped_range s from end ≡ s
+  unfolding has_with_wrapped_range
+  with_wrapped_range-none end h = ap (plain_set s.capacity)
       (fun_ext λ k. ap (λ b. b || s.has k)
       (and_right (nat_lt 0 s.capacity) (some_below end (reaches k)) (none k)))
     where
@@ -61,18 +61,18 @@ module _ (s : PlainSet) (from : ℕ) where
           omega (arith, leb-true from f.0 a.0, f.1))
 
   -- a range with one more index is the range, and then that index put in
-  with_range-more : (end : ℕ) → from ≤ end →
-      with_range s from (end + 1) ≡ with_index (with_range s from end) end
-  unfolding has_with_range has_with some_below
-  with_range-more end h = ap (plain_set s.capacity)
+  with_wrapped_range-more : (end : ℕ) → from ≤ end →
+      with_wrapped_range s from (end + 1) ≡ with_index (with_wrapped_range s from end) end
+  unfolding has_with_wrapped_range has_with some_below
+  with_wrapped_range-more end h = ap (plain_set s.capacity)
       (fun_ext λ k. rw (add-one, le-leb from end h)
       (spread (nat_lt 0 s.capacity) (some_below end (reaches k)) (k == end % s.capacity) (s.has k)))
 
   -- consecutive indexes, as many as the capacity, wrap to every number below the capacity
-  with_range-all : (last end : ℕ) → from + s.capacity ≤ last → last ≤ end →
-      with_range s from last ≡ with_range s from end
-  unfolding has_with_range
-  with_range-all last end many h = ap (plain_set s.capacity)
+  with_wrapped_range-all : (last end : ℕ) → from + s.capacity ≤ last → last ≤ end →
+      with_wrapped_range s from last ≡ with_wrapped_range s from end
+  unfolding has_with_wrapped_range
+  with_wrapped_range-all last end many h = ap (plain_set s.capacity)
       (fun_ext λ k. ap (λ b. b || s.has k) (alike k))
     where
       sooner : (k i : ℕ) → 0 < s.capacity → reaches k i ≡ true → some_below last (reaches k) ≡ true
@@ -106,15 +106,16 @@ module _ (s : PlainSet) (from : ℕ) where
 
   -- consecutive indexes that do not wrap are a span
   range_span : (start count : ℕ) → 0 < s.capacity → start ≡ from % s.capacity →
-      start + count ≤ s.capacity → with_range s from (from + count)
+      start + count ≤ s.capacity → with_wrapped_range s from (from + count)
       ≡ with_span s start (start + count)
-  range_span start zero some at le = with_range-none (from + 0) (omega arith)
+  range_span start zero some at le = with_wrapped_range-none (from + 0) (omega arith)
       ∙ sym (changed-none (λ _. true) s start (start + 0) (omega arith))
   range_span start (suc count) some at le =
       let next : (from + count) % s.capacity ≡ start + count = ap (λ t. t % s.capacity)
       (omega (arith, div-add-mod' from s.capacity)) ∙ mod-mul-add (from / s.capacity) s.capacity
       (start + count) (omega arith) in
-      ap (with_range s from) (omega arith) ∙ with_range-more (from + count) (omega arith)
+      ap (with_wrapped_range s from) (omega arith)
+      ∙ with_wrapped_range-more (from + count) (omega arith)
       ∙ ap (λ (u : PlainSet). with_index u (from + count))
       (range_span start count some at (omega arith))
       ∙ with_span-more s start (start + count) (from + count) some next (omega arith)
@@ -122,62 +123,67 @@ module _ (s : PlainSet) (from : ℕ) where
 
   -- if `count` indexes are enough, the range of that many indexes gives the set of the whole range
   range_whole : (count end : ℕ) (now : PlainSet) → IsEnough s from count end →
-      now ≡ with_range s from (from + count) → now ≡ with_range s from end
+      now ≡ with_wrapped_range s from (from + count) → now ≡ with_wrapped_range s from end
   range_whole count end now r e =
       elim (cases_lt (from + count) end) [
-        | inl l ↦ e ∙ with_range-all (from + count) end (omega (arith, r.short l)) r.in_range
-        | inr g ↦ e ∙ ap (with_range s from) (omega (arith, r.in_range))
+        | inl l ↦
+            e ∙ with_wrapped_range-all (from + count) end (omega (arith, r.short l)) r.in_range
+        | inr g ↦ e ∙ ap (with_wrapped_range s from) (omega (arith, r.in_range))
       ]
 
   -- a range that does not wrap, or that ends at the capacity, is one span
   pub one_span : (start count end : ℕ) (next : PlainSet) → IsEnough s from count end →
       start ≡ from % s.capacity → start + count ≤ s.capacity →
-      next ≡ with_span s start (start + count) → next ≡ with_range s from end
+      next ≡ with_span s start (start + count) → next ≡ with_wrapped_range s from end
   one_span start count end next r at le is =
       range_whole count end next r (is ∙ sym (range_span start count r.some at le))
 
 -- two ranges are one range if the second begins where the first ends
 range_on : (s : PlainSet) (from mid more : ℕ) → from ≤ mid →
-    with_range (with_range s from mid) mid (mid + more) ≡ with_range s from (mid + more)
-range_on s from mid zero h = with_range-none (with_range s from mid) mid (mid + 0) (omega arith)
-    ∙ ap (with_range s from) (omega arith)
+    with_wrapped_range (with_wrapped_range s from mid) mid (mid + more)
+    ≡ with_wrapped_range s from (mid + more)
+range_on s from mid zero h =
+    with_wrapped_range-none (with_wrapped_range s from mid) mid (mid + 0) (omega arith)
+    ∙ ap (with_wrapped_range s from) (omega arith)
 range_on s from mid (suc more) h =
-    ap (with_range (with_range s from mid) mid) (omega arith)
-    ∙ with_range-more (with_range s from mid) mid (mid + more) (omega arith)
+    ap (with_wrapped_range (with_wrapped_range s from mid) mid) (omega arith)
+    ∙ with_wrapped_range-more (with_wrapped_range s from mid) mid (mid + more) (omega arith)
     ∙ ap (λ (u : PlainSet). with_index u (mid + more)) (range_on s from mid more h)
-    ∙ sym (with_range-more s from (mid + more) (omega arith)) ∙ ap (with_range s from) (omega arith)
+    ∙ sym (with_wrapped_range-more s from (mid + more) (omega arith))
+    ∙ ap (with_wrapped_range s from) (omega arith)
 
 -- a range that wraps is the span up to the capacity and the span of the rest
 pub two_spans : (s : PlainSet) (from start room count end : ℕ) (now next : PlainSet) →
     IsEnough s from count end → start ≡ from % s.capacity → room ≡ s.capacity - start →
     room ≤ count → now ≡ with_span s start s.capacity → next ≡ with_span now 0 (count - room) →
-    next ≡ with_range s from end
+    next ≡ with_wrapped_range s from end
 two_spans s from start room count end now next r at rest more first second =
     let c = s.capacity in
     let few = r.few in
     let low = mod_below from c r.some in
-    let t = with_range s from (from + room) in
+    let t = with_wrapped_range s from (from + room) in
     let around : 0 ≡ (from + room) % c = sym
     (ap (λ t. t % c) (omega (arith, div-add-mod' from c)) ∙ mod-mul-add (from / c + 1) c 0 r.some)
     in
     let begins : now ≡ t = first ∙ ap (with_span s start) (omega arith)
     ∙ sym (range_span s from start room r.some at (omega arith)) in
-    let ends : next ≡ with_range t (from + room) (from + room + (count - room)) =
+    let ends : next ≡ with_wrapped_range t (from + room) (from + room + (count - room)) =
     second ∙ ap (λ (u : PlainSet). with_span u 0 (count - room)) begins
     ∙ ap (with_span t 0) (omega arith)
     ∙ sym (range_span t (from + room) 0 (count - room) r.some around (omega arith)) in
     range_whole s from count end next r
     (ends ∙ range_on s from (from + room) (count - room) (omega arith)
-    ∙ ap (with_range s from) (omega arith))
+    ∙ ap (with_wrapped_range s from) (omega arith))
 
 -- with capacity 0 a range adds nothing
-pub no_range : (s : PlainSet) (from end : ℕ) → s.capacity ≡ 0 → with_range s from end ≡ s
-unfolding has_with_range
+pub no_range : (s : PlainSet) (from end : ℕ) → s.capacity ≡ 0 → with_wrapped_range s from end ≡ s
+unfolding has_with_wrapped_range
 no_range s from end none = ap (plain_set s.capacity) (fun_ext λ k. rw none refl)
 
 -- the sets after the calls for the list `a, b, 2..=3, 5..7, 14..`, one after another
 pub listed_calls : (capacity a b end : ℕ) {none one two three four five : PlainSet} →
     none ≡ empty_set capacity → one ≡ with_index none a → two ≡ with_index one b →
-    three ≡ with_range two 2 (3 + 1) → four ≡ with_range three 5 7 → end ≡ capacity →
-    five ≡ with_range four 14 end → five ≡ listed_set capacity a b
+    three ≡ with_wrapped_range two 2 (3 + 1) → four ≡ with_wrapped_range three 5 7 →
+    end ≡ capacity →
+    five ≡ with_wrapped_range four 14 end → five ≡ listed_set capacity a b
 listed_calls capacity a b end p q r s t e u = rw (u, t, s, r, q, p, e) refl

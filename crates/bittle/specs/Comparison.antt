@@ -45,13 +45,14 @@ IsFirstDifference = IsFirstDecided just_one
 
 -- r is the least number that is in just one of the two sets, or `None` if they have the same
 -- members
-abbrev pub IsDifference : PlainSet → PlainSet → Option ℕ → Type 0
-IsDifference s t r = MatchOption r (AreSame s t) (IsFirstDifference s t)
+abbrev pub TellsFirstDifference : PlainSet → PlainSet → Option ℕ → Type 0
+TellsFirstDifference s t r = MatchOption r (AreSame s t) (IsFirstDifference s t)
 
--- `IsDifference` for the sets of two values, both read in the same bit order
-abbrev pub IsDifferenceOf : {V W X Y E : Type 0} → shape.Ghosts V W → shape.Ghosts X Y →
+-- `TellsFirstDifference` for the sets of two values, both read in the same bit order
+abbrev pub TellsFirstDifferenceOf : {V W X Y E : Type 0} → shape.Ghosts V W → shape.Ghosts X Y →
     endian.Ghosts E → V → X → Option ℕ → Type 0
-IsDifferenceOf a b e left right r = IsDifference (set_in a e left) (set_in b e right) r
+TellsFirstDifferenceOf a b e left right r =
+    TellsFirstDifference (set_in a e left) (set_in b e right) r
 
 -- some member is greater than the number
 abbrev pub HasPast : PlainSet → ℕ → Type 0

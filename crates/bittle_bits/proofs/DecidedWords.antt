@@ -1,7 +1,7 @@
 -- The result of an operation on two sets, word by word.
 use Rattle.std.proofs.Common.{◌≡◌, ℕ, ◌+◌, ◌*◌, ◌/◌, ◌<◌, ◌≤◌, Bool, ◌&&◌, inl, inr, Option, Some, None, MatchOption, refl, sym, ap, ◌∙◌, arith}
 use Rattle.std.proofs.Math.Path.{fun_ext}
-use Rattle.std.proofs.Math.Nat.{div-eq_of_lt, mul-div_left}
+use Rattle.std.proofs.Math.Nat.{mul-div_left}
 use Rattle.std.proofs.lemmas.Bool.{cases_lt, lt-ltb, le-ltb}
 use Rattle.bittle_bits.specs.BitPatterns.{bit_set}
 use Rattle.bittle_bits.specs.Decided.{has_decided, decided_below, NoneDecidedBelow, IsFirstDecided}
@@ -57,14 +57,6 @@ module _ (f : Bool → Bool → Bool) (m : Bool) (w n : ℕ) (s t : PlainSet) (w
 -- a capacity of whole words is the number of its words times the width
 pub words_make_up : (w n : ℕ) → 0 < w → (words : ℕ) × (n ≡ words * w) → n / w * w ≡ n
 words_make_up w n word whole = rw (whole.1) (ap (λ k. k * w) (mul-div_left whole.0 word))
-
--- a capacity that has a word is at least one word
-pub first_word_within : (w n : ℕ) → (n / w ≡ 0 → ⊥) → 1 * w ≤ n
-first_word_within w n some =
-    elim (cases_lt n w) [
-      | inl l ↦ absurd (some (div-eq_of_lt l))
-      | inr g ↦ omega arith
-    ]
 
 -- a search of the numbers below n also tells of the numbers below a lesser b
 pub none_or_first : (f : Bool → Bool → Bool) (s t : PlainSet) (n b : ℕ) (r : Option ℕ) → b ≤ n →

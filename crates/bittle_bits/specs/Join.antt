@@ -14,7 +14,8 @@ pub record Join (I : Type 0) : Type 0 where
   pub mask : Walk
   -- the iterator whose items are joined
   pub iter : I
-  -- the position of the next item of `iter`, counted from 0 at the start of the join
+  -- the position of the next item of `iter`, counted from 0 at the start of the join; it is of no
+  -- use once the join has returned `None`
   pub taken : ℕ
   -- whether the join has returned `None`
   pub ended : Bool

@@ -22,6 +22,7 @@ second_is_below a m n h = ltb-true m n (and_parts a (nat_lt m n) h).1
 
 module _ {X : Type 0} {eq : X → X → Bool} (c : ℕ) (big : X → PlainSet) (each : (x y : X) →
     IsTrue (eq x y) → big x ≡ big y) where
+  -- rows that are equal element by element agree on each member of each element
   equal_elements : (xs ys : List X) (q r : ℕ) → IsTrue (pointwise eq xs ys) →
       at_element (λ x. (big x).has r) xs q ≡ at_element (λ x. (big x).has r) ys q
   unfolding at_element
@@ -33,6 +34,7 @@ module _ {X : Type 0} {eq : X → X → Bool} (c : ℕ) (big : X → PlainSet) (
   equal_elements (x ∷ xs) (y ∷ ys) (suc q) r h = equal_elements xs ys q r
       (and_parts (eq x y) (pointwise eq xs ys) h).1
 
+  -- rows that are equal element by element agree on each number
   same_test : (n : ℕ) (xs ys : List X) → IsTrue (pointwise eq xs ys) → (i : ℕ) →
       row_has n c (λ x. (big x).has) xs i ≡ row_has n c (λ x. (big x).has) ys i
   unfolding row_has

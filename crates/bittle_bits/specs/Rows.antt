@@ -3,7 +3,7 @@ use Rattle.std.specs.Prelude.{◌≡◌, ℕ, zero, suc, ◌+◌, ◌<◌, ◌�
 use Rattle.bittle_bits.specs.PlainSet.{PlainSet, with_index, without_index}
 use Rattle.bittle_bits.specs.SetOperations.{combination_of}
 
--- whether the element at place n of the row passes the test; false if there is no such element
+-- whether element n of the row passes the test; false if there is no such element
 unfoldable pub at_element : {X : Type 0} → (X → Bool) → List X → ℕ → Bool
 at_element p [] n = false
 at_element p (x ∷ xs) zero = p x

@@ -196,8 +196,8 @@ impl Endian for LittleEndian {
 
     #[inline]
     fn zeros_rev<T: Word>(value: T) -> u32 {
-        // Index 0 is the leftmost bit. A member is the index of a set bit.
-        // To the right of the greatest member all bits are unset.
+        // Index 0 is the leftmost bit. So the unset bits of greater index than every set bit are
+        // those to the right of all set bits.
         value.trailing_zeros()
     }
 }

@@ -137,9 +137,9 @@ where
         }
         let item = match self.mask.next() {
             Some(member) => {
-                let passed_over = member as usize - self.taken;
+                let skipped = member as usize - self.taken;
                 self.taken = member as usize + 1;
-                skip_to(&mut self.iter, passed_over)
+                skip_to(&mut self.iter, skipped)
             }
             None => None,
         };

@@ -58,7 +58,8 @@ impl<T: Word, E: Endian, K: Kind> Model for Iter<T, E, K> {
 impl<T: Word, E: Endian, K: Kind> Iter<T, E, K> {
     /// Makes an iterator over the bits of the kind `K` of the word: its set bits or its unset bits.
     ///
-    /// Always callable. A step costs O(1).
+    /// Always callable. A step costs O(1). The last two clauses say what runs of steps of any such
+    /// iterator yield.
     ///
     /// ```
     /// number::IterOnes::<u8, LittleEndian>::new(0xD0);    // yields 0, 1, 3

@@ -163,7 +163,7 @@ pub fn from_end<T: Word, E: Endian, N: End>(word: T) -> u32
 // weight, `word & (word - 1)` clears it. Then the processor can begin the next step before it knows
 // the place.
 #[inline(always)]
-fn pop_at_once<T: Word, E: Endian, N: End>(word: &mut T) -> Option<u32>
+fn pop_from_whole<T: Word, E: Endian, N: End>(word: &mut T) -> Option<u32>
     ensures found { YieldsPlace N.FRONT (place E.mirrored T.width) (λ w. ascending
         (word_in T.Word E.Endian w)) word.old result word.new }
     ensures within { IfSome result (λ at. at < T.width) }
@@ -182,7 +182,7 @@ fn pop_at_once<T: Word, E: Endian, N: End>(word: &mut T) -> Option<u32>
     }
 }
 
-// Does what `pop_at_once` does, on a word of 128 bits. It works on the half that the member lies
+// Does what `pop_from_whole` does, on a word of 128 bits. It works on the half that the member lies
 // in. One instruction searches a half, and one changes it; for the whole word, about ten are
 // needed.
 #[inline(always)]
@@ -200,12 +200,12 @@ fn pop_from_half<T: Word, E: Endian, N: End>(word: &mut T) -> Option<u32>
     };
     if is_high {
         let mut half = high;
-        let place = pop_at_once::<u64, E, N>(&mut half)?;
+        let place = pop_from_whole::<u64, E, N>(&mut half)?;
         *word = joined::<T>(low, half);
         Some(64 + place)
     } else {
         let mut half = low;
-        let place = pop_at_once::<u64, E, N>(&mut half)?;
+        let place = pop_from_whole::<u64, E, N>(&mut half)?;
         *word = joined::<T>(half, high);
         Some(place)
     }
@@ -222,7 +222,7 @@ pub fn pop_place<T: Word, E: Endian, N: End>(word: &mut T) -> Option<u32>
     if T::width() == 128 {
         pop_from_half::<T, E, N>(word)
     } else {
-        pop_at_once::<T, E, N>(word)
+        pop_from_whole::<T, E, N>(word)
     }
 }
 

@@ -32,8 +32,8 @@ pub trait ReadWords: Drop + Shape {
     /// Returns `true` if `pass_over` of a value of the type may skip words.
     ///
     /// It affects speed only, so it has no contract. It decides whether an array, a slice or a view
-    /// of two sets calls `pass_over` of its parts, and how a search goes on after a word without a
-    /// bit of the kind.
+    /// of two sets calls `pass_over` of its parts, and whether a search of whole words reads them
+    /// one by one or four at a time.
     #[doc(hidden)]
     #[inline(always)]
     fn may_pass_over() -> bool {

@@ -19,10 +19,10 @@ pub trait Word: Copy {
     fn width() -> u32
         ensures { result ≡ width };
 
-    /// Returns the word whose only set bit has the weight `2 ^ index`.
-    fn one_at(index: u32) -> Self
-        requires { index < width }
-        ensures { pattern result ≡ 2 ^ index };
+    /// Returns the word whose only set bit has the weight `2 ^ place`.
+    fn one_at(place: u32) -> Self
+        requires { place < width }
+        ensures { pattern result ≡ 2 ^ place };
 
     /// Returns the word whose only set bit lies `below` places under the bit of greatest weight.
     /// The call shifts the word in which only the bit of greatest weight is set. That takes one
@@ -35,13 +35,13 @@ pub trait Word: Copy {
         Self::from_bits(Self::one_at(Self::width() - 1).to_bits() >> below)
     }
 
-    /// Returns the word in which just the bits of weight below `2 ^ index` are set.
+    /// Returns the word in which just the bits of weight below `2 ^ place` are set.
     #[inline]
-    final fn low(index: u32) -> Self
-        requires { index < width }
-        ensures { pattern result ≡ 2 ^ index - 1 }
+    final fn low(place: u32) -> Self
+        requires { place < width }
+        ensures { pattern result ≡ 2 ^ place - 1 }
     {
-        Self::from_bits(Self::one_at(index).to_bits() - 1)
+        Self::from_bits(Self::one_at(place).to_bits() - 1)
     }
 
     /// Returns the word with no bit set.

@@ -7,13 +7,13 @@ ghost use Rattle.std.specs.Ordering.{MatchOrdering, on, as_partial_cmp};
 ghost use Rattle.std.specs.Prelude.{◌≡◌, ◌↔◌, false, not, IsTrue, MatchBool, refl};
 ghost use Rattle.bittle_bits.specs.PlainSet.{ascending};
 ghost use Rattle.bittle_bits.specs.Values.{set_in, ShapeFits};
-ghost use Rattle.bittle.specs.Comparison.{list_cmp, list_eq, AreCompared, AreSame, GoesOn, HasPast, HasNonePast, IsDifferenceOf, Precedes};
+ghost use Rattle.bittle.specs.Comparison.{list_cmp, list_eq, AreCompared, AreSame, GoesOn, HasPast, HasNonePast, TellsFirstDifferenceOf, Precedes};
 
 use super::Set;
 use bittle_bits::bits::Bits;
 use bittle_bits::endian::Endian;
 use bittle_bits::extension::{
-    SymmetricDifference, are_alike, first_decided_at_once, first_decided_below, test_bit,
+    SymmetricDifference, are_alike, first_decided_below, first_decided_in_first_words, test_bit,
     word_width,
 };
 use std::cmp::Ordering;
@@ -21,14 +21,14 @@ use std::cmp::Ordering;
 // Returns the least index that is in just one of two sets, or `None` if they have the same members.
 // `capacity` is that of the left set, and `other` that of the right set.
 #[inline]
-fn difference_by_words<A: Bits, B: Bits, E: Endian>(
+fn first_difference_by_words<A: Bits, B: Bits, E: Endian>(
     left: &A,
     right: &B,
     capacity: u32,
     other: u32,
 ) -> Option<u32>
     requires { AreCompared A.Shape B.Shape left.now right.now capacity other }
-    ensures { IsDifferenceOf A.Shape B.Shape E.Endian left.now right.now result }
+    ensures { TellsFirstDifferenceOf A.Shape B.Shape E.Endian left.now right.now result }
 {
     let common = capacity.min(other);
     let difference = first_decided_below::<A, B, E, SymmetricDifference>(left, right, common);
@@ -45,23 +45,24 @@ fn difference_by_words<A: Bits, B: Bits, E: Endian>(
     }
 }
 
-// Does the same as `difference_by_words`, but is never inlined. So a caller of `first_difference`
-// inlines only the comparison of the first words.
+// Does the same as `first_difference_by_words`, but is never inlined. So a caller of
+// `first_difference` inlines only the comparison of the first words.
 #[inline(never)]
-fn difference_out_of_line<A: Bits, B: Bits, E: Endian>(
+fn first_difference_out_of_line<A: Bits, B: Bits, E: Endian>(
     left: &A,
     right: &B,
     capacity: u32,
     other: u32,
 ) -> Option<u32>
     requires { AreCompared A.Shape B.Shape left.now right.now capacity other }
-    ensures { IsDifferenceOf A.Shape B.Shape E.Endian left.now right.now result }
+    ensures { TellsFirstDifferenceOf A.Shape B.Shape E.Endian left.now right.now result }
 {
-    difference_by_words::<A, B, E>(left, right, capacity, other)
+    first_difference_by_words::<A, B, E>(left, right, capacity, other)
 }
 
-// Does the same as `difference_by_words`. For a slice it first compares only the first word of each
-// set, since these two often decide. If they do not, they are read again with the other words.
+// Does the same as `first_difference_by_words`. If the number of words is no constant of the left
+// type (a slice, or a set with a summary), it first compares only the first word of each set, since
+// these two often decide. If they do not, they are read again with the other words.
 #[inline]
 fn first_difference<A: Bits, B: Bits, E: Endian>(
     left: &A,
@@ -70,17 +71,17 @@ fn first_difference<A: Bits, B: Bits, E: Endian>(
     other: u32,
 ) -> Option<u32>
     requires { AreCompared A.Shape B.Shape left.now right.now capacity other }
-    ensures { IsDifferenceOf A.Shape B.Shape E.Endian left.now right.now result }
+    ensures { TellsFirstDifferenceOf A.Shape B.Shape E.Endian left.now right.now result }
 {
     if A::is_fixed() {
-        return difference_by_words::<A, B, E>(left, right, capacity, other);
+        return first_difference_by_words::<A, B, E>(left, right, capacity, other);
     }
     let common = capacity.min(other);
-    let first = first_decided_at_once::<A, B, E, SymmetricDifference>(left, right, common);
+    let first = first_decided_in_first_words::<A, B, E, SymmetricDifference>(left, right, common);
     if first.is_some() {
         return first;
     }
-    difference_out_of_line::<A, B, E>(left, right, capacity, other)
+    first_difference_out_of_line::<A, B, E>(left, right, capacity, other)
 }
 
 // Returns whether an index is a member. The index does not wrap.
@@ -252,6 +253,7 @@ impl<T: Bits, E: Endian> Set<T, E> {
     }
 }
 
+/// Two sets are equal if they have the same members.
 impl<T: Bits, E: Endian> PartialEq for Set<T, E> {
     ghost eq = { on (λ s. ascending (set_in T.Shape E.Endian s.bits)) list_eq };
 
@@ -290,6 +292,8 @@ impl<T: Bits, E: Endian> PartialOrd for Set<T, E> {
     }
 }
 
+/// Orders sets by the increasing lists of their members. The first items that differ decide, and a
+/// list that is the start of a longer list comes first. This is not the order of the integers.
 impl<T: Bits, E: Endian> Ord for Set<T, E> {
     ghost cmp = { on (λ s. ascending (set_in T.Shape E.Endian s.bits)) list_cmp };
 

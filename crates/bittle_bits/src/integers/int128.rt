@@ -42,8 +42,8 @@ impl Word for u128 {
     }
 
     #[inline]
-    fn one_at(index: u32) -> u128 {
-        1 << index
+    fn one_at(place: u32) -> u128 {
+        1 << place
     }
 
     #[inline]
@@ -98,8 +98,8 @@ impl Word for i128 {
     }
 
     #[inline]
-    fn one_at(index: u32) -> i128 {
-        1 << index
+    fn one_at(place: u32) -> i128 {
+        1 << place
     }
 
     #[inline]

@@ -42,8 +42,8 @@ impl Word for u16 {
     }
 
     #[inline]
-    fn one_at(index: u32) -> u16 {
-        1 << index
+    fn one_at(place: u32) -> u16 {
+        1 << place
     }
 
     #[inline]
@@ -98,8 +98,8 @@ impl Word for i16 {
     }
 
     #[inline]
-    fn one_at(index: u32) -> i16 {
-        1 << index
+    fn one_at(place: u32) -> i16 {
+        1 << place
     }
 
     #[inline]

@@ -42,8 +42,8 @@ impl Word for u32 {
     }
 
     #[inline]
-    fn one_at(index: u32) -> u32 {
-        1 << index
+    fn one_at(place: u32) -> u32 {
+        1 << place
     }
 
     #[inline]
@@ -98,8 +98,8 @@ impl Word for i32 {
     }
 
     #[inline]
-    fn one_at(index: u32) -> i32 {
-        1 << index
+    fn one_at(place: u32) -> i32 {
+        1 << place
     }
 
     #[inline]

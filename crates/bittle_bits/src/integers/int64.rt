@@ -42,8 +42,8 @@ impl Word for u64 {
     }
 
     #[inline]
-    fn one_at(index: u32) -> u64 {
-        1 << index
+    fn one_at(place: u32) -> u64 {
+        1 << place
     }
 
     #[inline]
@@ -98,8 +98,8 @@ impl Word for i64 {
     }
 
     #[inline]
-    fn one_at(index: u32) -> i64 {
-        1 << index
+    fn one_at(place: u32) -> i64 {
+        1 << place
     }
 
     #[inline]

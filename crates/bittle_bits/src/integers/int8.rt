@@ -42,8 +42,8 @@ impl Word for u8 {
     }
 
     #[inline]
-    fn one_at(index: u32) -> u8 {
-        1 << index
+    fn one_at(place: u32) -> u8 {
+        1 << place
     }
 
     #[inline]
@@ -98,8 +98,8 @@ impl Word for i8 {
     }
 
     #[inline]
-    fn one_at(index: u32) -> i8 {
-        1 << index
+    fn one_at(place: u32) -> i8 {
+        1 << place
     }
 
     #[inline]

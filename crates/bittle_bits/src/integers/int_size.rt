@@ -42,8 +42,8 @@ impl Word for usize {
     }
 
     #[inline]
-    fn one_at(index: u32) -> usize {
-        1 << index
+    fn one_at(place: u32) -> usize {
+        1 << place
     }
 
     #[inline]
@@ -98,8 +98,8 @@ impl Word for isize {
     }
 
     #[inline]
-    fn one_at(index: u32) -> isize {
-        1 << index
+    fn one_at(place: u32) -> isize {
+        1 << place
     }
 
     #[inline]

@@ -51,7 +51,8 @@ fn are_four_empty<B: ReadWords, E: Endian, K: Kind>(bits: &B, from: u32) -> bool
 }
 
 // Returns the least index of a bit of the kind `K` in the words `from..to`, or `None` if they have
-// no such bit. It searches four words at a time.
+// no such bit. It searches four words at a time. If one of the four has such a bit, it reads these
+// words again, one by one, up to that word.
 #[inline(always)]
 fn first_by_fours<B: ReadWords, E: Endian, K: Kind>(bits: &B, from: u32, to: u32) -> Option<u32>
     requires fits { ShapeFits B.Shape bits.now }

@@ -92,7 +92,7 @@ impl<'a, A: ReadWords, B: ReadWords, O: Operation> Both<'a, A, B, O> {
 /// words of the two sets have the same width. `common` is the lesser of their capacities.
 // The compiler inlines this small function. So if the first words decide, a caller makes no call.
 #[inline]
-pub fn first_decided_at_once<A: ReadWords, B: ReadWords, E: Endian, O: Operation>(
+pub fn first_decided_in_first_words<A: ReadWords, B: ReadWords, E: Endian, O: Operation>(
     left: &A,
     right: &B,
     common: u32,
@@ -101,12 +101,13 @@ pub fn first_decided_at_once<A: ReadWords, B: ReadWords, E: Endian, O: Operation
     requires left_fits { ShapeFits A.Shape left.now }
     requires right_fits { ShapeFits B.Shape right.now }
     requires common { common ≡ min (A.big left.now).capacity (B.big right.now).capacity }
-    ensures { let ours = set_in A.Shape E.Endian left.now in
+    ensures first { let ours = set_in A.Shape E.Endian left.now in
         let theirs = set_in B.Shape E.Endian right.now in
         MatchOption result (NoneDecidedBelow O.decide ours theirs (min common A.width))
         (IsFirstDecided O.decide ours theirs) }
+    ensures below { IfSome result (λ index. index < min common A.width) }
 {
-    if common / word_width::<A>() == 0 {
+    if common < word_width::<A>() {
         return None;
     }
     first_in_words::<Both<'_, A, B, O>, E, Ones>(&Both::of(left, right, common), 1)

@@ -3,8 +3,8 @@
 ghost use Rattle.std.specs.Prelude.{◌<◌};
 ghost use Rattle.bittle_bits.specs.Pieces.{LiesAt};
 
-/// Returns four numbers: the piece that the first index of `from..to` lies in, the place of this
-/// index in the piece, and then the piece and the place of the last index.
+/// Returns four numbers: the piece that the first index of `from..to` lies in, the offset of this
+/// index in the piece, and then the piece and the offset of the last index.
 #[inline]
 pub fn ends(length: u32, from: u32, to: u32) -> (u32, u32, u32, u32)
     requires some { 0 < length }

@@ -10,10 +10,10 @@ use crate::one_word::range;
 use crate::read_words::{ReadWords, word_width};
 use crate::word::Word;
 
-/// Counts the set bits of word `k` whose index within the word is in `from..to`. Indexes follow the
-/// bit order `E`.
+// Counts the set bits of word `k` whose index within the word is in `from..to`. Indexes follow the
+// bit order `E`.
 #[inline]
-pub fn count_in_word<B: ReadWords, E: Endian>(bits: &B, k: u32, from: u32, to: u32) -> u32
+fn count_in_word<B: ReadWords, E: Endian>(bits: &B, k: u32, from: u32, to: u32) -> u32
     requires fits { ShapeFits B.Shape bits.now }
     requires word { k * B.width < (B.big bits.now).capacity }
     requires ordered { from ≤ to }

@@ -68,13 +68,13 @@ fn wrapped(index: u32, capacity: u32) -> u32
 
 // Returns the number of the element that the bit at `index` lies in, and the bit's index within
 // this element. An index at or past the capacity wraps. With capacity 0 the call returns `None`. If
-// the length is a constant, a division by the length costs less than a test whether the index is
-// past the capacity.
+// the elements are those of an array, so that their number is a constant, a division by this number
+// costs less than a test whether the index is past the capacity.
 #[inline]
 fn locate<T: ReadWords + FixedCapacity>(
     len: usize,
     index: u32,
-    is_constant: bool,
+    is_array: bool,
 ) -> Option<(usize, u32)>
     requires { IsTrue T.indexable }
     ensures { MatchOption result (len * T.type_capacity
@@ -84,15 +84,15 @@ fn locate<T: ReadWords + FixedCapacity>(
     if each == 0 || len == 0 {
         return None;
     }
-    if is_constant {
+    if is_array {
         return Some(((index / each) as usize % len, index % each));
     }
     let within = wrapped(index, bits_capacity::<T>(len));
     Some(((within / each) as usize, within % each))
 }
 
-/// Returns whether the bit at `index` of an array or of a slice is set. An index at or past the
-/// capacity wraps. With capacity 0 the call returns `false`.
+/// Returns whether the bit at `index` of an array (if `is_array` is `true`) or of a slice is set.
+/// An index at or past the capacity wraps. With capacity 0 the call returns `false`.
 #[inline]
 pub fn test_bit<T: Bits + FixedCapacity, E: Endian>(
     elements: &[T],
@@ -108,8 +108,9 @@ pub fn test_bit<T: Bits + FixedCapacity, E: Endian>(
     }
 }
 
-/// Changes the bit at `index` of an array or of a slice: sets it if `K` is `Ones`, and clears it if
-/// `K` is `Zeros`. An index at or past the capacity wraps. With capacity 0 nothing changes.
+/// Changes the bit at `index` of an array (if `is_array` is `true`) or of a slice: sets it if `K` is
+/// `Ones`, and clears it if `K` is `Zeros`. An index at or past the capacity wraps. With capacity 0
+/// nothing changes.
 #[inline]
 pub fn put_bit<T: BitsMut + FixedCapacity, E: Endian, K: Kind>(
     elements: &mut [T],
@@ -280,7 +281,7 @@ fn combine_each<T: BitsMut, O: Operation>(elements: &mut [T], others: &[T], comm
 }
 
 /// Combines each element with the element of `others` at the same place, if there is one. Elements
-/// that are words of at least 32 bits are combined four at a time.
+/// that are one word of at least 32 bits are combined four at a time.
 #[inline(always)]
 pub fn combine<T: BitsMut + FixedCapacity + Copy, O: Operation>(elements: &mut [T], others: &[T])
     ensures { (mirrored : Bool) → row_mirrored T.Shape mirrored elements.new
@@ -360,9 +361,9 @@ fn rest_is_without<T: Bits + FixedCapacity, K: Kind>(elements: &[T], from: usize
 }
 
 // Returns whether no element has a bit of the kind `K`. It tests the first element by itself, since
-// this one often decides. If the elements are words, and there are at least eight, it tests eight
-// at a time and the rest one by one. It tests larger elements one by one, since seven of eight
-// tests might be wasted.
+// this one often decides. If each element is one word, and there are at least eight, it then tests
+// eight at a time, the first one again among them, and the rest one by one. It tests larger
+// elements one by one, since seven of eight tests might be wasted.
 fn is_without_by_turns<T: Bits + FixedCapacity, K: Kind>(elements: &[T]) -> bool
     ensures { result ≡ (size (row_of T.Shape elements.now) == cond K.ONES 0
         (length elements.now * T.type_capacity)) }
@@ -410,7 +411,7 @@ fn is_without<T: Bits + FixedCapacity, K: Kind>(elements: &[T], at_once: bool) -
     is_without_by_turns::<T, K>(elements)
 }
 
-/// Returns whether no bit is set.
+/// Returns whether no bit is set. The call tests all elements if `at_once` is `true`.
 #[inline]
 pub fn all_zeros<T: Bits + FixedCapacity>(elements: &[T], at_once: bool) -> bool
     ensures value { result ≡ (size (row_of T.Shape elements.now) == 0) }
@@ -420,7 +421,7 @@ pub fn all_zeros<T: Bits + FixedCapacity>(elements: &[T], at_once: bool) -> bool
     is_without::<T, Ones>(elements, at_once)
 }
 
-/// Returns whether every bit is set.
+/// Returns whether every bit is set. The call tests all elements if `at_once` is `true`.
 #[inline]
 pub fn all_ones<T: Bits + FixedCapacity>(elements: &[T], at_once: bool) -> bool
     ensures value { result ≡ (size
@@ -469,8 +470,8 @@ pub fn set_leaf_word<T: BitsMut + FixedCapacity>(elements: &mut [T], k: usize, w
 // Passes over words at the end `N` of `low..high`, in the one element that lies at that end. The
 // element knows that the words passed over have no bit of the kind `K`. The call returns the new
 // `low` if `N` is the front, and the new `high` if `N` is the back. It also returns whether it
-// passed over all words of `low..high` that lie in the element. The range `low..high` must not be
-// empty.
+// passed over all words of `low..high` that lie in the element. This answer affects speed only, so
+// no clause states it. The range `low..high` must not be empty.
 #[inline]
 fn pass_over_in_element<T: ReadWords + FixedCapacity, K: Kind, N: End>(
     elements: &[T],

@@ -1,14 +1,14 @@
 use Rattle.std.proofs.Common.{◌+◌, ◌%◌, sym, ap, ◌∙◌, arith}
 use Rattle.bittle_bits.specs.Values.{set_in}
 use Rattle.bittle_bits.specs.PlainSet.{with_span}
-use Rattle.bittle.proofs.RangeSets.{IsEnough, with_range-none, no_range, one_span, two_spans}
+use Rattle.bittle.proofs.RangeSets.{IsEnough, with_wrapped_range-none, no_range, one_span, two_spans}
 use Rattle.bittle.proofs.macros.put_through_in.Given.{Over}
 use Rattle.bittle.proofs.macros.put_through_in.Goals.{After-min-count}
 use Rattle.bittle.proofs.macros.put_through_in.Goals as goal
 
 pub returns-then-to-from-clause-set : goal.returns-then-to-from-clause-set
 returns-then-to-from-clause-set g c = sym
-    (with_range-none _ c.args.from (c.args.to + 1) (omega arith))
+    (with_wrapped_range-none _ c.args.from (c.args.to + 1) (omega arith))
 
 pub returns-then-capacity-eq0-clause-set : goal.returns-then-capacity-eq0-clause-set
 returns-then-capacity-eq0-clause-set g c =

@@ -4,7 +4,7 @@ use Rattle.std.specs.Ordering.{is_eq}
 use Rattle.bittle_bits.specs.PlainSet.{ascending}
 use Rattle.bittle_bits.specs.Values.{set_in, set_mirrored}
 use Rattle.bittle_bits.proofs.PlainSets.{members-past}
-use Rattle.bittle.specs.Comparison.{AreSame, IsDifference}
+use Rattle.bittle.specs.Comparison.{AreSame, TellsFirstDifference}
 use Rattle.bittle.proofs.FirstDifference.{none_is, none_equal, none_decides}
 use Rattle.bittle.proofs.ListComparison.{equal_iff_same}
 use Rattle.bittle.proofs.set.compare.are_equal.Given.{Over}
@@ -13,10 +13,10 @@ use Rattle.bittle.proofs.set.compare.are_equal.Goals as goal
 
 -- the first difference, with each side read in its own order
 difference : (g : Over) (c : After-first_difference g) →
-    IsDifference (set_in g.A.Shape g.E.Endian c.args.left.now)
+    TellsFirstDifference (set_in g.A.Shape g.E.Endian c.args.left.now)
     (set_in g.B.Shape g.F.Endian c.args.right.now) c.first_difference.result
 difference g c =
-    subst (λ m. IsDifference (set_in g.A.Shape g.E.Endian c.args.left.now)
+    subst (λ m. TellsFirstDifference (set_in g.A.Shape g.E.Endian c.args.left.now)
     (set_mirrored g.B.Shape m c.args.right.now) c.first_difference.result)
     (c.are_alike.ensures.0 c.if-are_alike.true).1 c.first_difference.ensures
 

@@ -24,8 +24,8 @@ wraps g c =
           ∙ wraps_nowhere _ _ even large (omega (arith, c.ranges.index))
     ]
 
-pub returns-then-is_constant : goal.returns-then-is_constant
-returns-then-is_constant g c =
+pub returns-then-is_array : goal.returns-then-is_array
+returns-then-is_array g c =
     let each = c.fixed_capacity-each.ensures.value (c.requires, g.met.T.FixedCapacity.type_fits c.requires) in
     goes_to _ _ _ _ _ each (omega arith) (omega (arith, each)) refl
 

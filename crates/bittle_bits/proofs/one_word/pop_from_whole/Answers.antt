@@ -2,7 +2,7 @@ use Rattle.std.proofs.Common.{◌∙◌, refl, sym, arith}
 use Rattle.std.proofs.lemmas.Bool.{eqb-true, eqb-false}
 use Rattle.bittle_bits.proofs.WordEnds.{end_within, least_taken, greatest_taken}
 use Rattle.bittle_bits.proofs.WordSizes.{zero_lists_none}
-use Rattle.bittle_bits.proofs.one_word.pop_at_once.Goals as goal
+use Rattle.bittle_bits.proofs.one_word.pop_from_whole.Goals as goal
 
 pub returns-then-is_zero-clause-found : goal.returns-then-is_zero-clause-found
 returns-then-is_zero-clause-found g c = (
