@@ -9,17 +9,18 @@ some_below (suc n) p = some_below n p || p n
 
 -- whether k is a member of s, or some index of the range `from..end` wraps to k; with capacity 0 no
 -- index wraps to a number
-unfoldable pub has_with_range : PlainSet → ℕ → ℕ → ℕ → Bool
-has_with_range s from end k =
+unfoldable pub has_with_wrapped_range : PlainSet → ℕ → ℕ → ℕ → Bool
+has_with_wrapped_range s from end k =
     (nat_lt 0 s.capacity && some_below end (λ i. nat_le from i && (k == i % s.capacity))) || s.has k
 
--- the set s with each index of the range `from..end` added; an index past the capacity wraps, and a
--- range with `end <= from` adds nothing
-abbrev pub with_range : PlainSet → ℕ → ℕ → PlainSet
-with_range s from end = record { capacity = s.capacity; has = has_with_range s from end }
+-- the set s with each index of the range `from..end` added; an index at or past the capacity wraps,
+-- and a range with `end <= from` adds nothing
+abbrev pub with_wrapped_range : PlainSet → ℕ → ℕ → PlainSet
+with_wrapped_range s from end =
+    record { capacity = s.capacity; has = has_with_wrapped_range s from end }
 
 -- the set that the list `a, b, 2..=3, 5..7, 14..` names, if its capacity is `capacity`
 abbrev pub listed_set : ℕ → ℕ → ℕ → PlainSet
 listed_set capacity a b =
-    with_range (with_range (with_range (with_index (with_index (empty_set capacity) a) b) 2 (3 + 1))
-    5 7) 14 capacity
+    with_wrapped_range (with_wrapped_range (with_wrapped_range
+    (with_index (with_index (empty_set capacity) a) b) 2 (3 + 1)) 5 7) 14 capacity

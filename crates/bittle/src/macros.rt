@@ -3,7 +3,7 @@
 
 ghost use Rattle.std.specs.Prelude.{◌≡◌, ◌+◌, IsTrue};
 ghost use Rattle.bittle_bits.specs.Values.{set_in, ShapeFits};
-ghost use Rattle.bittle.specs.Ranges.{with_range, listed_set};
+ghost use Rattle.bittle.specs.Ranges.{with_wrapped_range, listed_set};
 
 use bittle_bits::bits::Bits;
 use bittle_bits::bits_mut::BitsMut;
@@ -18,7 +18,8 @@ use bittle_bits::endian::{BigEndian, Endian, LittleEndian};
 ///
 /// The type of the set has to follow from the context, and has to fit (`bits() < u32::MAX`). Making
 /// the empty set costs O(words). Each index then costs O(1), and each range costs one masked write
-/// for each of its words. An index at or past the capacity wraps. With capacity 0 the set is empty.
+/// for each of its words, and one more if it wraps within a word. An index at or past the capacity
+/// wraps. With capacity 0 the set is empty.
 ///
 /// The macro cannot make a `const`. Write a function that returns the set instead.
 ///
@@ -120,7 +121,7 @@ macro_rules! put_listed {
 pub fn put_until<B: BitsMut>(bits: &mut B, from: u32, to: u32)
     requires { ShapeFits B.Shape bits.old }
     ensures set { set_in B.Shape B.Order.Endian bits.new
-        ≡ with_range (set_in B.Shape B.Order.Endian bits.old) from to }
+        ≡ with_wrapped_range (set_in B.Shape B.Order.Endian bits.old) from to }
     ensures stays { B.loan bits.old ≡ B.loan bits.new }
 {
     put_until_in::<B, B::Order>(bits, from, to);
@@ -131,7 +132,7 @@ pub fn put_until<B: BitsMut>(bits: &mut B, from: u32, to: u32)
 pub fn put_until_in<B: BitsMut, E: Endian>(bits: &mut B, from: u32, to: u32)
     requires { ShapeFits B.Shape bits.old }
     ensures set { set_in B.Shape E.Endian bits.new
-        ≡ with_range (set_in B.Shape E.Endian bits.old) from to }
+        ≡ with_wrapped_range (set_in B.Shape E.Endian bits.old) from to }
     ensures stays { B.loan bits.old ≡ B.loan bits.new }
 {
     if from < to {
@@ -148,7 +149,7 @@ pub fn put_until_in<B: BitsMut, E: Endian>(bits: &mut B, from: u32, to: u32)
 pub fn put_through<B: BitsMut>(bits: &mut B, from: u32, to: u32)
     requires { ShapeFits B.Shape bits.old }
     ensures set { set_in B.Shape B.Order.Endian bits.new
-        ≡ with_range (set_in B.Shape B.Order.Endian bits.old) from (to + 1) }
+        ≡ with_wrapped_range (set_in B.Shape B.Order.Endian bits.old) from (to + 1) }
     ensures stays { B.loan bits.old ≡ B.loan bits.new }
 {
     put_through_in::<B, B::Order>(bits, from, to);
@@ -158,7 +159,7 @@ pub fn put_through<B: BitsMut>(bits: &mut B, from: u32, to: u32)
 pub fn put_through_in<B: BitsMut, E: Endian>(bits: &mut B, from: u32, to: u32)
     requires { ShapeFits B.Shape bits.old }
     ensures set { set_in B.Shape E.Endian bits.new
-        ≡ with_range (set_in B.Shape E.Endian bits.old) from (to + 1) }
+        ≡ with_wrapped_range (set_in B.Shape E.Endian bits.old) from (to + 1) }
     ensures stays { B.loan bits.old ≡ B.loan bits.new }
 {
     if to < from {

@@ -64,8 +64,9 @@ pub struct Set<T: Shape, E: Endian = DefaultEndian> {
 
 /// States that a `Set` type that names no order has the big-endian order.
 #[doc(hidden)]
-pub fn default_order_is_big_endian()
-    ensures { ⟦<DefaultEndian as Endian>⟧.mirrored ≡ false }
+pub fn default_order_is_big_endian<T: Bits>()
+    ensures default { ⟦<DefaultEndian as Endian>⟧.mirrored ≡ false }
+    ensures set { ⟦<<Set<T> as Bits>::Order as Endian>⟧.mirrored ≡ false }
 {}
 
 impl<T: Bits> Set<T> {

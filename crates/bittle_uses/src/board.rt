@@ -3,7 +3,7 @@
 ghost use Rattle.std.specs.Prelude.{◌≡◌, IfOk, reverse};
 ghost use Rattle.bittle.specs.BitPatterns.{bit_set};
 ghost use Rattle.bittle.specs.PlainSet.{ascending, complement, empty_set};
-ghost use Rattle.bittle.specs.Ranges.{with_range};
+ghost use Rattle.bittle.specs.Ranges.{with_wrapped_range};
 ghost use Rattle.bittle_uses.specs.Board.{AreEnds};
 
 use bittle::{Bits, set};
@@ -11,7 +11,7 @@ use std::alloc::{AllocError, Global};
 
 /// Returns the board at the start: the first two rows and the last two are taken.
 pub fn start() -> u64
-    ensures { bit_set 64 result ≡ with_range (with_range (empty_set 64) 0 16) 48 64 }
+    ensures { bit_set 64 result ≡ with_wrapped_range (with_wrapped_range (empty_set 64) 0 16) 48 64 }
 {
     set![0..16, 48..]
 }
