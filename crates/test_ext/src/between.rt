@@ -470,6 +470,21 @@ fn a_lent_slice_is_rotated(rt: HostRuntime) {
     same!(rt; row, [0xC, 2, 1]);
 }
 
+#[test]
+fn drawn_rotations_in_place_agree_with_plain_loops(rt: HostRuntime) {
+    let mut state = 31;
+    for turn in 0..2000u32 {
+        let (row, up, by) = (draw_row(&mut state), turn % 2 == 0, draw(&mut state) % 60);
+        let (flags, far) = (flags_of(&row), (by % 24) as usize);
+        let mut expected = [false; 24];
+        for i in 0..24usize {
+            let from = if up { i + 24 - far } else { i + far };
+            expected[i] = flags[from % 24];
+        }
+        same!(rt; flags_of(&turned(up, row, by)), expected);
+    }
+}
+
 // For each rank, returns the index of the unset bit that has this many unset bits below it.
 fn selected_zeros<B: Bits, const N: usize>(set: &B, ranks: [u32; N]) -> [Option<u32>; N]
     requires { ShapeFits B.Shape set.now }

@@ -1,10 +1,11 @@
 //! Tests of ranges of bits that are copied. The expected values are worked out by hand, or by a
-//! loop that tests and sets one bit after another.
+//! loop that tests and sets one bit after another, or, for random rows, by a loop over 24 flags.
 
 ghost use Rattle.std.specs.Prelude.{IsTrue};
 ghost use Rattle.bittle.specs.Values.{ShapeFits};
 
 use crate::checks::{Compared, same};
+use crate::random::{draw, draw_row, flags_of};
 use bittle::prelude::*;
 use bittle::{BigEndian, BitsOwned, Endian, LittleEndian, Set};
 use bittle_ext::prelude::*;
@@ -217,4 +218,24 @@ fn capacity_0(rt: HostRuntime) {
     pastes(&rt, 0xFFu8, &none, 0, 3, 2, 0b1110_0011);
     pastes(&rt, none, &1u8, 4, 4, 0, none);
     moves(&rt, none, 9, 9, 0, none);
+}
+
+#[test]
+fn drawn_copies_agree_with_plain_loops(rt: HostRuntime) {
+    let mut state = 23;
+    for _ in 0..1000 {
+        let (row, other) = (draw_row(&mut state), draw_row(&mut state));
+        let (from, at) = (draw(&mut state) % 25, draw(&mut state) % 25);
+        let count = draw(&mut state) % (25 - from.max(at));
+        let (ours, theirs) = (flags_of(&row), flags_of(&other));
+        let (mut copied, mut within) = (ours, ours);
+        for i in 0..24u32 {
+            if i < count && from + i < 24 && at + i < 24 {
+                copied[(at + i) as usize] = theirs[(from + i) as usize];
+                within[(at + i) as usize] = ours[(from + i) as usize];
+            }
+        }
+        same!(rt; flags_of(&pasted(row, &other, from, from + count, at)), copied);
+        same!(rt; flags_of(&moved(row, from, from + count, at)), within);
+    }
 }

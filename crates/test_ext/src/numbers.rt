@@ -1,11 +1,13 @@
 //! Tests of ranges of bits that are read and written as numbers. The expected values are worked out
-//! by hand, or by a loop that tests or sets one bit after another.
+//! by hand, by a loop that tests or sets one bit after another, or, for random rows, by a loop over
+//! 24 flags.
 
 ghost use Rattle.std.specs.Prelude.{IsTrue};
 ghost use Rattle.bittle.specs.Values.{ShapeFits};
 
 use crate::calls::{Change, change_in};
 use crate::checks::{Compared, holds, same};
+use crate::random::{draw, draw_row, flags_of};
 use bittle::prelude::*;
 use bittle::{BigEndian, BitsOwned, Endian, LittleEndian, Set};
 use bittle_ext::prelude::*;
@@ -250,4 +252,25 @@ fn capacity_0(rt: HostRuntime) {
     agree(&rt, 32, none);
     loads(&rt, &none, [(0, 64, 0), (u32::MAX, 1, 0)]);
     holds!(rt; stored(none, 0, 0, u64::MAX).all_zeros());
+}
+
+#[test]
+fn drawn_numbers_agree_with_plain_loops(rt: HostRuntime) {
+    let mut state = 19;
+    for _ in 0..1000 {
+        let (row, value) = (draw_row(&mut state), draw(&mut state) as u64);
+        let first = draw(&mut state) % 25;
+        let count = draw(&mut state) % (25 - first);
+        let mut flags = flags_of(&row);
+        let mut number = 0u64;
+        for i in 0..count.min(24) {
+            if first + i < 24 {
+                let at = (first + i) as usize;
+                number |= (flags[at] as u64) << i;
+                flags[at] = value >> i & 1 == 1;
+            }
+        }
+        same!(rt; loaded(&row, first, count), number);
+        same!(rt; flags_of(&stored(row, first, count, value)), flags);
+    }
 }

@@ -10,6 +10,7 @@ use crate::calls::{
     zeros_in_range,
 };
 use crate::checks::same;
+use crate::rotations::moved;
 use bittle::{Bits, BitsMut, BitsOwned};
 use bittle_ext::prelude::*;
 use std::process::Abort;
@@ -248,5 +249,34 @@ fn drawn_runs_agree_with_plain_loops(rt: HostRuntime) {
         }
         let walked = walked_runs(&rt, zeros, &row);
         same!(rt; walked, (firsts, lasts));
+    }
+}
+
+// Returns the flag that is at index `at` after all flags are moved by `by`. `kind` picks the way:
+// rotated down, rotated up, shifted down or shifted up.
+fn flag_after(kind: u32, flags: &[bool; 24], at: usize, by: usize) -> bool
+    requires index { at < 24 }
+    requires distance { by < 50 }
+{
+    match kind {
+        0 => flags[(at + by) % 24],
+        1 => flags[(at + 72 - by) % 24],
+        2 => at + by < 24 && flags[at + by],
+        _ => by <= at && flags[at - by],
+    }
+}
+
+#[test]
+fn drawn_rotations_agree_with_plain_loops(rt: HostRuntime) {
+    let mut state = 17;
+    for _ in 0..2000 {
+        let row = draw_row(&mut state);
+        let (kind, by) = (draw(&mut state) % 4, draw(&mut state) % 50);
+        let flags = flags_of(&row);
+        let mut expected = [false; 24];
+        for i in 0..24usize {
+            expected[i] = flag_after(kind, &flags, i, by as usize);
+        }
+        same!(rt; flags_of(&moved(kind, row, by)), expected);
     }
 }

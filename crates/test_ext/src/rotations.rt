@@ -131,7 +131,7 @@ fn moved_in<B: BitsOwned, E: Endian>(way: u32, set: B, by: u32) -> B
 
 // Returns `set` with its bits moved by `by` indexes, in the order of the type. `way` selects one of
 // four calls.
-fn moved<B: BitsOwned>(way: u32, set: B, by: u32) -> B
+pub(crate) fn moved<B: BitsOwned>(way: u32, set: B, by: u32) -> B
     requires { IsTrue B.indexable }
 {
     match way {
