@@ -7,7 +7,7 @@ pub use crate::fixed_capacity::FixedCapacity;
 pub use crate::integer::Integer;
 pub use crate::internal::buffer::Count;
 pub use crate::internal::by_fours::first_in_words;
-pub use crate::internal::decided::{first_decided_in_first_words, first_decided_below};
+pub use crate::internal::decided::{first_decided_below, first_decided_in_first_words};
 pub use crate::internal::range_count::count_ones as count_ones_in_range;
 pub use crate::internal::sealed::Sealed;
 pub use crate::internal::search::{end_in, first_from, last_of};
