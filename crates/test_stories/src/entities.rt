@@ -76,22 +76,6 @@ fn entities_in_an_integer(rt: HostRuntime) {
     same!(rt; asked::<u8>(&world), ([2, 0, 1, 0], [Some(0), None, Some(0), None]));
 }
 
-#[test]
-fn entities_in_a_nested_array(rt: HostRuntime) {
-    let mut world = World::<[[u16; 2]; 3], 2>::new();
-    same!(rt; serve::<[[u16; 2]; 3]>(&mut world), expected());
-    same!(rt; asked::<[[u16; 2]; 3]>(&world), ([2, 0, 1, 0], [Some(0), None, Some(0), None]));
-}
-
-#[test]
-fn entities_in_the_other_order(rt: HostRuntime) {
-    let mut world = World::<Set<u16, LittleEndian>, 2>::new();
-    same!(rt; serve::<Set<u16, LittleEndian>>(&mut world), expected());
-    holds!(rt; world.is_alive(0) && world.is_alive(1) && !world.is_alive(2));
-    holds!(rt; world.has(0, 1) && !world.has(0, 0) && !world.has(1, 0) && !world.has(0, 2));
-    same!(rt; world.first_with(&[1], 1), None);
-}
-
 // The example at the top of the crate `bit_entities`.
 #[test]
 fn the_example(rt: HostRuntime) {

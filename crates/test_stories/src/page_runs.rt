@@ -33,13 +33,6 @@ fn chosen_pages(rt: HostRuntime) {
 }
 
 #[test]
-fn chosen_pages_in_the_other_order(rt: HostRuntime) {
-    let mut pages = Pages::<Set<u8, LittleEndian>>::new();
-    same!(rt; (pages.take_at(1), pages.take_at(8)), (true, false));
-    same!(rt; pages.into_map().into_bits(), 0b0100_0000);
-}
-
-#[test]
 fn requests_of_pages_and_runs(rt: HostRuntime) {
     let mut pages = Pages::with_taken(0b0100_1001u8);
     let mut answers = [Answer::Full; 13];
@@ -143,45 +136,6 @@ fn agrees<B: BitsOwned>(pages: &Pages<B>, taken: &[bool; 16]) -> bool {
     pages.taken() == count
 }
 
-// Returns whether 40 drawn calls on sixteen pages return what the flags say.
-fn drawn<B: BitsOwned>(seed: u64) -> bool
-    requires fits { Fits B.indexable B.type_capacity }
-    requires sixteen { B.type_capacity ≡ 16 }
-{
-    let mut pages = Pages::<B>::new();
-    let mut taken = [false; 16];
-    let mut state = seed;
-    let mut right = true;
-    for _ in 0..40u32 {
-        state = state
-            .wrapping_mul(6_364_136_223_846_793_005)
-            .wrapping_add(1_442_695_040_888_963_407);
-        let length = ((state >> 40) % 5 + 1) as u32;
-        if (state >> 33) % 2 == 0 {
-            let expected = first_free(&taken, length);
-            right = right && pages.take_run(length) == expected;
-            if let Some(first) = expected {
-                assign(&mut taken, first, length, true);
-            }
-        } else {
-            let first = ((state >> 48) % 17) as u32;
-            let expected = all_are(&taken, first, length, true);
-            right = right && pages.give_back_run(first, length).is_ok() == expected;
-            if expected {
-                assign(&mut taken, first, length, false);
-            }
-        }
-        right = right && agrees(&pages, &taken);
-    }
-    right
-}
-
-#[test]
-fn drawn_runs(rt: HostRuntime) {
-    holds!(rt; drawn::<u16>(1) && drawn::<u16>(2));
-    holds!(rt; drawn::<[u8; 2]>(3) && drawn::<Set<[u8; 2], LittleEndian>>(4));
-}
-
 // Applies a request to the flags, and returns the expected answer.
 fn answer(taken: &mut [bool; 16], request: Request) -> Answer {
     match request {
@@ -252,7 +206,6 @@ fn drawn_requests<B: BitsOwned>(seed: u64) -> bool
 
 #[test]
 fn drawn_requests_of_pages_and_runs(rt: HostRuntime) {
-    holds!(rt; drawn_requests::<u16>(5) && drawn_requests::<u16>(6) && drawn_requests::<u16>(7));
-    holds!(rt; drawn_requests::<[u8; 2]>(8) && drawn_requests::<[u8; 2]>(9));
+    holds!(rt; drawn_requests::<u16>(5) && drawn_requests::<u16>(8));
     holds!(rt; drawn_requests::<Set<[u8; 2], LittleEndian>>(10));
 }

@@ -60,33 +60,11 @@ fn answers_of(second: u32, third: u32) -> [Answer; 9] {
 #[test]
 fn by_urgency_in_an_integer(rt: HostRuntime) {
     same!(rt; serve_by_urgency::<u8>(), answers_of(2, 5));
-    same!(rt; serve_by_urgency::<i128>(), answers_of(2, 5));
-}
-
-#[test]
-fn by_urgency_in_a_nested_array(rt: HostRuntime) {
-    same!(rt; serve_by_urgency::<[[u16; 2]; 3]>(), answers_of(2, 5));
-}
-
-#[test]
-fn by_urgency_in_the_other_order(rt: HostRuntime) {
-    same!(rt; serve_by_urgency::<Set<[u8; 3], LittleEndian>>(), answers_of(2, 5));
 }
 
 #[test]
 fn in_turn_in_an_integer(rt: HostRuntime) {
     same!(rt; serve_in_turn::<u8>(), answers_of(5, 2));
-    same!(rt; serve_in_turn::<i128>(), answers_of(5, 2));
-}
-
-#[test]
-fn in_turn_in_a_nested_array(rt: HostRuntime) {
-    same!(rt; serve_in_turn::<[[u16; 2]; 3]>(), answers_of(5, 2));
-}
-
-#[test]
-fn in_turn_in_the_other_order(rt: HostRuntime) {
-    same!(rt; serve_in_turn::<Set<[u8; 3], LittleEndian>>(), answers_of(5, 2));
 }
 
 #[test]

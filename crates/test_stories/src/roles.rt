@@ -50,12 +50,6 @@ fn permissions_in_an_integer(rt: HostRuntime) {
 }
 
 #[test]
-fn permissions_in_a_nested_array(rt: HostRuntime) {
-    let mut roles = Roles::<[[u16; 2]; 3], 4>::new();
-    same!(rt; serve::<[[u16; 2]; 3]>(&mut roles), expected());
-}
-
-#[test]
 fn permissions_in_the_other_order(rt: HostRuntime) {
     let mut roles = Roles::<Set<u16, LittleEndian>, 4>::new();
     let mut answers = [Answer::Done; 8];
@@ -194,23 +188,4 @@ fn are_as_tables<B: BitsOwned>(roles: &mut Roles<B, 6>) -> bool {
 fn drawn_requests_agree_with_plain_tables(rt: HostRuntime) {
     let mut roles = Roles::<[u8; 4], 6>::new();
     holds!(rt; are_as_tables::<[u8; 4]>(&mut roles));
-}
-
-#[test]
-fn drawn_requests_in_the_other_order(rt: HostRuntime) {
-    let mut state = 9;
-    let mut roles = Roles::<Set<u32, LittleEndian>, 6>::new();
-    let (mut granted, mut parents) = ([[false; 32]; 6], [None; 6]);
-    let mut is_same = true;
-    for _ in 0..400 {
-        let request = draw_request(&mut state);
-        let mut answers = [Answer::Done];
-        roles.serve(&[request], &mut answers);
-        is_same = answers[0] == ask_tables(request, &mut granted, &mut parents) && is_same;
-        let allowed = allowed_of(&granted, &parents);
-        let (role, permission) = (draw(&mut state) % 6, draw(&mut state) % 32);
-        let expected = allowed[role as usize][permission as usize];
-        is_same = roles.allows(role, permission) == expected && is_same;
-    }
-    holds!(rt; is_same);
 }

@@ -192,11 +192,6 @@ fn of_a_word(rt: HostRuntime) {
 }
 
 #[test]
-fn of_an_array(rt: HostRuntime) {
-    holds!(rt; drawn::<[u8; 2]>(4) && drawn::<[u8; 2]>(5));
-}
-
-#[test]
 fn of_the_other_order(rt: HostRuntime) {
     holds!(rt; drawn::<Set<u16, LittleEndian>>(6) && drawn::<Set<u16, LittleEndian>>(7));
 }
