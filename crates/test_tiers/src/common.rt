@@ -163,23 +163,11 @@ fn agree_on_any_and_tier<A: BitsOwned, B: BitsOwned, T: BitsOwned>(
     agree_on_common::<A, Tiered<B, T, Ones>>(rt, seed, pairs);
 }
 
-// Does the same as `agree_on_common` for two sets with summaries.
-fn agree_on_tiers<A: BitsOwned, S: BitsOwned, B: BitsOwned, T: BitsOwned>(
-    rt: &impl Abort,
-    seed: u32,
-    pairs: u32,
-)
-    requires one { IsTrue ⟦<Tiered<A, S, Ones> as Shape>⟧.indexable }
-    requires other { IsTrue ⟦<Tiered<B, T, Ones> as Shape>⟧.indexable }
-{
-    agree_on_any_and_tier::<Tiered<A, S, Ones>, B, T>(rt, seed, pairs);
-}
-
-// Does the same as `agree_on_tiers` for two sets of the same type.
+// Does the same as `agree_on_common` for two sets with summaries, which are of the same type.
 fn agree_on_same_tiers<B: BitsOwned, S: BitsOwned>(rt: &impl Abort, seed: u32, pairs: u32)
     requires { IsTrue ⟦<Tiered<B, S, Ones> as Shape>⟧.indexable }
 {
-    agree_on_tiers::<B, S, B, S>(rt, seed, pairs);
+    agree_on_any_and_tier::<Tiered<B, S, Ones>, B, S>(rt, seed, pairs);
 }
 
 // Does the same as `agree_on_same_tiers` for summaries that have summaries themselves.
@@ -206,10 +194,9 @@ fn of_two_levels_of_groups(rt: HostRuntime) {
 }
 
 // Only a set whose summary has words of 64 bits knows which groups of its own words are empty. Here
-// the first set does not know this: its summary has words of 32 bits, or the set has no summary.
+// the first set does not know this, because it has no summary.
 #[test]
-fn of_sets_that_tell_of_no_group(rt: HostRuntime) {
-    agree_on_tiers::<[u64; 64], [u32; 2], [u64; 64], u64>(&rt, 8, 10);
+fn of_a_set_that_tells_of_no_group(rt: HostRuntime) {
     agree_on_any_and_tier::<[u64; 64], [u64; 64], u64>(&rt, 9, 10);
 }
 

@@ -108,25 +108,18 @@ fn change<B: BitsOwned, E: Endian>(state: &mut u32, set: &mut B, flags: &mut [bo
     }
 }
 
-// Makes 300 random changes of a set and of its flags. After each change, tests that the set agrees
-// with the flags. `seed` determines the changes. The set that is passed must be full if `all` is
-// `true`, and else empty.
-fn agree_from<B: BitsOwned, E: Endian>(rt: &impl Abort, seed: u32, mut set: B, all: bool)
+// Makes 300 random changes of the full or the empty set of a type, and of its flags. After each
+// change, tests that the set agrees with the flags. `seed` determines the changes.
+fn agree_with_plain_loops<B: BitsOwned, E: Endian>(rt: &impl Abort, seed: u32, all: bool)
     requires { IsTrue B.indexable }
 {
     let mut state = seed;
+    let mut set = even::<B>(all);
     let mut flags = [all; 24];
     for _ in 0..300 {
         change::<B, E>(&mut state, &mut set, &mut flags);
         ask::<B, E>(rt, &mut state, &set, &flags);
     }
-}
-
-// Does the same as `agree_from`, and begins with the full or the empty set of a type.
-fn agree_with_plain_loops<B: BitsOwned, E: Endian>(rt: &impl Abort, seed: u32, all: bool)
-    requires { IsTrue B.indexable }
-{
-    agree_from::<B, E>(rt, seed, even(all), all);
 }
 
 // Does the same as `agree_with_plain_loops` for a set with a summary.
@@ -146,18 +139,8 @@ fn agree_on_bytes<K: Kind, E: Endian>(rt: &impl Abort, seed: u32, all: bool) {
 }
 
 #[test]
-fn a_summary_of_the_ones_agrees_with_plain_loops(rt: HostRuntime) {
-    agree_on_bytes::<Ones, BigEndian>(&rt, 1, false);
-}
-
-#[test]
 fn a_summary_of_the_ones_agrees_in_little_endian_order(rt: HostRuntime) {
     agree_on_bytes::<Ones, LittleEndian>(&rt, 2, false);
-}
-
-#[test]
-fn a_summary_of_the_zeros_agrees_with_plain_loops(rt: HostRuntime) {
-    agree_on_bytes::<Zeros, BigEndian>(&rt, 3, true);
 }
 
 #[test]
@@ -165,28 +148,9 @@ fn a_summary_of_the_zeros_agrees_in_little_endian_order(rt: HostRuntime) {
     agree_on_bytes::<Zeros, LittleEndian>(&rt, 4, true);
 }
 
-// There are three tiers: a map of 24 bits, its summary of 8 bits, and the summary of this summary.
-// The last one has 8 bits, and uses only one of them.
-#[test]
-fn a_summary_of_a_summary_agrees_with_plain_loops(rt: HostRuntime) {
-    agree_on_tier::<[u8; 3], Tiered<u8, u8, Ones>, Zeros, BigEndian>(&rt, 5, true);
-}
-
 // The set has two summaries. The inner one shows which words have set bits, the outer one which
 // words have unset bits.
 #[test]
 fn a_summary_for_either_kind_agrees_with_plain_loops(rt: HostRuntime) {
-    agree_on_tier::<Tiered<[u8; 3], u8, Ones>, u8, Zeros, LittleEndian>(&rt, 6, false);
-}
-
-// Does the same as `agree_from` for a row of three sets, which must be empty.
-fn agree_on_row<T: BitsOwned, E: Endian>(rt: &impl Abort, seed: u32, row: [T; 3])
-    requires { IsTrue ⟦<[T; 3] as Shape>⟧.indexable }
-{
-    agree_from::<[T; 3], E>(rt, seed, row, false);
-}
-
-#[test]
-fn a_row_of_them_agrees_with_plain_loops(rt: HostRuntime) {
-    agree_on_row::<_, BigEndian>(&rt, 7, [Tiered::<u8, u8, Ones>::new(0); 3]);
+    agree_on_tier::<Tiered<[u8; 3], u8, Ones>, u8, Zeros, BigEndian>(&rt, 6, false);
 }

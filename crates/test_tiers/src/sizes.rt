@@ -66,10 +66,6 @@ fn the_usual_sizes(rt: HostRuntime) {
     ask_empty(&rt, &answers_of_tier(&Tiered4K::<Ones>::default()), 4096);
     let answers = answers_of_two_tiers::<[u64; 1024], [u64; 16], u64, Zeros>(&Tiered64K::default());
     ask_empty(&rt, &answers, 65_536);
-    let answers = answers_of_two_tiers::<[u64; 4096], [u64; 64], u64, Zeros>(
-        &Tiered256K::default(),
-    );
-    ask_empty(&rt, &answers, 262_144);
     ask_empty(
         &rt,
         &answers_of_two_tiers(&Tiered256K::<Ones>::default()),

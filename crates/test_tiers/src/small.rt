@@ -1,11 +1,11 @@
-//! Tests sets of 24 bits with a summary: they are wrapped, compared, copied, changed, searched and
+//! Tests sets of 24 bits with a summary: they are wrapped, compared, changed, searched and
 //! printed.
 
 ghost use Rattle.std.specs.Prelude.{IsTrue};
 ghost use Rattle.bittle.specs.Values.{ShapeFits};
 
 use crate::calls::{
-    ends_of_ones, ends_of_zeros, even, first_runs, has, searches, whole, with, with_range, without,
+    ends_of_ones, even, first_runs, has, searches, whole, with, with_range, without,
 };
 use crate::checks::same;
 use bittle::{BigEndian, Bits, BitsOwned, LittleEndian, Set, Shape};
@@ -20,7 +20,6 @@ use std::test::Fail;
 enum Question {
     Ends,
     Equality,
-    Copy,
     Ranges,
     Runs,
     Operations,
@@ -35,7 +34,6 @@ fn ask_set<B: BitsOwned>(rt: &impl Abort, question: Question, set: B, other: B) 
     match question {
         Question::Ends => same!(*rt; ends_of_ones(&set), [Some(8), Some(8)]),
         Question::Equality => ask_equality(rt, set, other),
-        Question::Copy => ask_copy::<B>(rt),
         Question::Ranges => return after_ranges(rt),
         Question::Runs => {
             ask_for_runs_of_ones(rt, &set);
@@ -95,22 +93,6 @@ fn sets_are_equal_by_their_maps(rt: HostRuntime) {
     // In the summary of the full set that `ones` returns, bits that stand for no word of the map
     // are set. In the summary that `new` makes of a full map, these bits are unset.
     ask::<Ones>(&rt, Question::Equality, [[0, 2, 0], [255; 3]]);
-}
-
-// Clears bit 23 of a copy of the full set. Tests that only bit 23 of the copy is unset, and that
-// the set stays full.
-fn ask_copy<B: BitsOwned>(rt: &impl Abort)
-    requires { IsTrue B.indexable }
-{
-    let set = even::<B>(true);
-    let copy = without(set, &[23]);
-    same!(*rt; ends_of_zeros(&copy), [Some(23), Some(23)]);
-    same!(*rt; ends_of_zeros(&set), [None, None]);
-}
-
-#[test]
-fn a_copy_goes_its_own_way(rt: HostRuntime) {
-    ask::<Zeros>(&rt, Question::Copy, [[0; 3]; 2]);
 }
 
 // Sets a range of an empty set, and tests what searches find. In a copy, clears the range except
