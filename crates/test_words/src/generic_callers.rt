@@ -1,15 +1,13 @@
 //! Callers of iterators, proved without any proof file except for the invariants of loops.
 
-ghost use Rattle.std.specs.Prelude.{◌≡◌, ◌+◌, ◌*◌, ◌/◌, ◌<◌, ◌^◌, IfOk, length, map, reverse, true, false};
-ghost use Rattle.std.specs.Int.{w16, cast_unsigned};
+ghost use Rattle.std.specs.Prelude.{◌≡◌, ◌+◌, ◌*◌, ◌/◌, ◌<◌, IfOk, length, map, reverse, true, false};
 ghost use Rattle.bittle.specs.BitPatterns.{bit_set};
 ghost use Rattle.bittle.specs.Orders.{read_in};
 ghost use Rattle.bittle.specs.PlainSet.{ascending, complement};
 ghost use Rattle.bittle.specs.Rows.{row_set};
 ghost use Rattle.bittle.specs.Values.{set_in, ShapeFits};
 
-use bittle::{Bits, BitsOwned, Endian, LittleEndian, number};
-use bittle_bits::extension::Word;
+use bittle::{Bits, BitsOwned, Endian};
 use std::alloc::{AllocError, Global};
 
 /// Counts the set bits of any set with a `for` loop.
@@ -55,42 +53,12 @@ fn each_owned_member<B: BitsOwned, E: Endian>(bits: B) -> u64
     total
 }
 
-/// Counts the unset bits of an owned set with a `for` loop.
-fn each_owned_other<B: BitsOwned, E: Endian>(bits: B) -> u64
-    requires fits { ShapeFits B.Shape bits }
-    requires few { length (ascending (complement (set_in B.Shape E.Endian bits))) < 100 }
-    ensures { result ≡ length (ascending (complement (set_in B.Shape E.Endian bits))) }
-{
-    let mut total: u64 = 0;
-    for _index in bits.into_iter_zeros_in::<E>() {
-        total += 1;
-    }
-    total
-}
-
-/// Counts the set bits of an owned set with the `count` of its iterator.
-fn counted<B: BitsOwned, E: Endian>(bits: B) -> usize
-    requires fits { ShapeFits B.Shape bits }
-    requires few { length (ascending (set_in B.Shape E.Endian bits)) < 2 ^ 64 }
-    ensures { result ≡ length (ascending (set_in B.Shape E.Endian bits)) }
-{
-    bits.into_iter_ones_in::<E>().count()
-}
-
 /// Lists the indexes of the set bits of a set, from the greatest down. They follow the order `E`.
 fn reversed<B: Bits, E: Endian>(alloc: Global, bits: &B) -> Result<Vec<u32>, AllocError>
     requires { ShapeFits B.Shape bits.now }
     ensures { IfOk result (λ v. v.items ≡ reverse (ascending (set_in B.Shape E.Endian bits.now))) }
 {
     bits.iter_ones_in::<E>().rev().collect(alloc)
-}
-
-/// Lists the indexes of the set bits of a word, from the greatest down.
-fn word_reversed(alloc: Global, word: i16) -> Result<Vec<u32>, AllocError>
-    ensures { IfOk result (λ v. v.items
-        ≡ reverse (ascending (read_in false 16 (bit_set 16 (cast_unsigned w16 word))))) }
-{
-    word.into_iter_ones_be().rev().collect(alloc)
 }
 
 /// Lists half of the index, rounded down, for each unset bit of a word. The indexes follow the
@@ -101,29 +69,5 @@ fn halves(alloc: Global, word: u8) -> Result<Vec<u32>, AllocError>
 {
     word.into_iter_zeros_le()
         .map(|index| index / 2)
-        .collect(alloc)
-}
-
-/// Counts the set bits of one word of any type with a `for` loop.
-fn each_digit<T: Word, E: Endian>(word: T) -> u64
-    requires { T.width < 1000 }
-    ensures { result
-        ≡ length (ascending (read_in E.mirrored T.width (bit_set T.width (T.pattern word)))) }
-{
-    let mut total: u64 = 0;
-    for _index in number::IterOnes::<T, E>::new(word) {
-        total += 1;
-    }
-    total
-}
-
-/// Lists the indexes of the unset bits of one word, from the greatest down. The bits are indexed in
-/// little-endian order.
-fn lacking_reversed(alloc: Global, word: u32) -> Result<Vec<u32>, AllocError>
-    ensures { IfOk result (λ v. v.items
-        ≡ reverse (ascending (complement (read_in true 32 (bit_set 32 word))))) }
-{
-    number::IterZeros::<u32, LittleEndian>::new(word)
-        .rev()
         .collect(alloc)
 }

@@ -1,4 +1,5 @@
-//! Tests of what the calls of `bittle` return on words, arrays and slices.
+//! Tests of what the calls of `bittle` return on words, arrays and slices, and callers of iterators
+//! that no test runs.
 #![tactic(auto)]
 
 #[cfg(test)]

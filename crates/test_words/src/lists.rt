@@ -2,7 +2,7 @@
 
 ghost use Rattle.std.specs.Prelude.{IsTrue};
 
-use crate::checks::{holds, same};
+use crate::checks::same;
 use bittle::prelude::*;
 use bittle::{LittleEndian, Set, set, set_be, set_le};
 use std::process::Abort;
@@ -32,34 +32,6 @@ fn words_of_lists(rt: HostRuntime) {
         ("an expression", set![index / 2, index + 1], 0b0010_0100),
     ];
     each_is(&rt, &lists);
-}
-
-/// A struct whose field is an index.
-#[derive(Drop)]
-struct Place {
-    x: u32,
-}
-
-/// Returns its argument.
-fn itself(index: u32) -> u32 {
-    index
-}
-
-#[test]
-fn words_of_indexes_beside_others_of_their_form(rt: HostRuntime) {
-    let (a, b, c, d, e) = (1, 3, 6, 2u8, 7u8);
-    let (p, q) = (Place { x: 0 }, Place { x: 5 });
-    let names: u8 = set![a, b, c];
-    let calls: u8 = set![itself(a), itself(b), itself(c)];
-    let brackets: u8 = set![(a), (b), (c)];
-    let fields: u8 = set![p.x, q.x];
-    let casts: u8 = set![d as u32, e as u32];
-    let through: u8 = set![1..=2, 4..=5];
-    let until: u8 = set![1..3, 4..6];
-    same!(rt;
-        [names, calls, brackets, fields, casts, through, until],
-        [0b0100_1010, 0b0100_1010, 0b0100_1010, 0b0010_0001, 0b1000_0100, 0b0011_0110, 0b0011_0110]
-    );
 }
 
 // The list `0..=4, 6..` in the order of the type, in little-endian and in big-endian order.
@@ -117,13 +89,11 @@ fn words_of_ranges_past_the_capacity(rt: HostRuntime) {
     each_is(&rt, &lists);
 }
 
-// Returns the set of 1 and 12 from a list, and checks that calls of `with_bit` make the same set.
-fn listed_as_called<B: BitsOwned>(rt: &impl Abort) -> B
+// Returns the set of 1 and 12 from a list.
+fn listed<B: BitsOwned>() -> B
     requires { IsTrue B.indexable }
 {
-    let listed: B = set![1, 12];
-    holds!(*rt; listed == B::zeros().with_bit(1).with_bit(12));
-    listed
+    set![1, 12]
 }
 
 // Two arrays, each made of a list.
@@ -141,7 +111,7 @@ fn counts_of_three() -> (u32, u32) {
 fn other_types(rt: HostRuntime) {
     let signed: i8 = set_le![0];
     same!(rt; signed, i8::MIN);
-    let listed = listed_as_called::<Set<u16, LittleEndian>>(&rt);
+    let listed = listed::<Set<u16, LittleEndian>>();
     same!(rt; listed.into_bits(), 0b0100_0000_0000_1000);
     same!(rt; listed_arrays(), ([128, 32768], [1, 16]));
     same!(rt; counts_of_three(), (3, 13));

@@ -1,33 +1,13 @@
-//! Calls on words: single calls, iterators, and words of every width with extreme values.
+//! Calls on words: searches, iterators, and words of every width with extreme values.
 
-ghost use Rattle.std.specs.Iterator.{IsFinite};
 ghost use Rattle.std.specs.Prelude.{◌<◌};
 ghost use Rattle.bittle.specs.Values.{ShapeFits};
 
 use crate::checks::{holds, same};
 use bittle::number::{IterOnes, IterZeros};
-use bittle::{BigEndian, Bits, BitsMut, Endian, LittleEndian};
+use bittle::{BigEndian, Bits, Endian, LittleEndian};
 use bittle_bits::extension::Word;
 use std::process::Abort;
-
-#[test]
-fn single_calls(rt: HostRuntime) {
-    let mut byte = 0u8;
-    byte.set_bit_in::<LittleEndian>(0);
-    same!(rt; byte, 128);
-
-    let mut signed = 0i8;
-    signed.set_bit_le(0);
-    same!(rt; signed, i8::MIN);
-    holds!(rt; !signed.test_bit_le(1));
-
-    let mut word = 0u32;
-    word.set_bit(0);
-    holds!(rt; word.test_bit(32));
-
-    same!(rt; Bits::count_ones(&-1i16), 16);
-    same!(rt; Bits::count_zeros(&-2i8), 1);
-}
 
 #[test]
 fn searches_of_one_word(rt: HostRuntime) {
@@ -74,37 +54,6 @@ fn clones_go_on_from_their_source(rt: HostRuntime) {
     let mut source = IterZeros::<u16, LittleEndian>::new(0xFFF0);
     source.next();
     holds!(rt; source.clone().unwrap().eq([13, 14, 15]));
-}
-
-// Returns whether the reversed iterator yields these items.
-fn is_reversed<W: DoubleEndedIterator<Item = u32>>(walk: W, items: &[u32]) -> bool
-    requires front { (w : W) → W.can_next w }
-    requires back { (w : W) → W.can_next_back w }
-    requires ends { (w : W) → IsFinite (W.remaining w) }
-{
-    walk.rev().eq(items.iter().copied())
-}
-
-// Returns whether `items` are the set bits of a word, from the greatest index down. The indexes
-// follow the little-endian order.
-fn are_ones_reversed<T: Word>(word: T, items: &[u32]) -> bool {
-    is_reversed(IterOnes::<T, LittleEndian>::new(word), items)
-}
-
-// Returns whether `items` are the unset bits of a word, from the greatest index down. The indexes
-// follow the little-endian order.
-fn are_zeros_reversed<T: Word>(word: T, items: &[u32]) -> bool {
-    is_reversed(IterZeros::<T, LittleEndian>::new(word), items)
-}
-
-#[test]
-fn signed_words_from_the_back(rt: HostRuntime) {
-    holds!(rt; are_ones_reversed(-2i8, &[6, 5, 4, 3, 2, 1, 0]));
-    holds!(rt; are_ones_reversed(-32767i16, &[15, 0]));
-    holds!(rt; are_zeros_reversed(-4i32, &[31, 30]));
-    holds!(rt; are_ones_reversed(i64::MIN + 3, &[63, 62, 0]));
-    holds!(rt; are_ones_reversed(5i128, &[127, 125]));
-    holds!(rt; are_zeros_reversed(isize::MAX, &[0]));
 }
 
 #[test]
