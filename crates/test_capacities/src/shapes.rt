@@ -57,12 +57,6 @@ fn nested_arrays(rt: HostRuntime) {
     let mut word = 0i32;
     put_and_ask::<i32, BigEndian>(&rt, &mut word, 49, 32);
     same!(rt; word, 131_072);
-
-    let expected: [[[[u16; 3]; 2]; 2]; 2] = [
-        [[[0, 0, 0], [0, 0, 0]], [[16, 0, 0], [0, 0, 0]]],
-        [[[0, 0, 0], [0, 0, 0]], [[2048, 0, 0], [0, 0, 0]]],
-    ];
-    put_in_two_levels::<[u16; 3]>(&rt, 100, 292, 192, expected);
 }
 
 // Sets one bit of a slice in which no bit is set.
@@ -89,11 +83,6 @@ fn slices(rt: HostRuntime) {
     same!(rt; words, [i64::MIN, 1, 0, 0, 0]);
     no_words::<BigEndian>(&rt);
     no_words::<LittleEndian>(&rt);
-
-    let mut pairs = [[0u8; 2]; 3];
-    put_into::<[u8; 2], LittleEndian>(&rt, &mut pairs[..], 40, 48);
-    put_into::<[u8; 2], BigEndian>(&rt, &mut pairs[..2], 40, 32);
-    same!(rt; pairs, [[0, 1], [0, 0], [0, 128]]);
 }
 
 fn no_words<E: Endian>(rt: &impl Abort) {
