@@ -94,17 +94,6 @@ fn joins_to<'a, T: Copy + Debug + PartialEq + 'a, B: Bits, I: IntoIterator<Item 
     steps_to(rt, mask.join_ones(iter), expected);
 }
 
-#[test]
-fn gives_the_items_at_the_members(rt: HostRuntime) {
-    let mask: u8 = set![0, 2, 5];
-    joins(
-        &rt,
-        &mask,
-        [10u8, 20, 30],
-        &[Some(10), Some(30), None, None],
-    );
-}
-
 // Checks what a join in little-endian order and a join in big-endian order yield.
 fn joins_each_way<T: Copy + Debug + PartialEq, B: Bits>(
     rt: &impl Abort,
@@ -133,17 +122,6 @@ fn joins_a_mask_of_a_wide_word(rt: HostRuntime) {
     mask.set_bit(0);
     mask.set_bit(2);
     joins_to(&rt, &mask, &[10, 48, 101], &[Some(10), Some(101), None]);
-}
-
-#[test]
-fn joins_a_mask_of_a_nested_array(rt: HostRuntime) {
-    let mask = [[16u8, 0], [0, 0x81]];
-    joins(
-        &rt,
-        &mask,
-        100..132,
-        &[Some(104), Some(124), Some(131), None],
-    );
 }
 
 #[test]

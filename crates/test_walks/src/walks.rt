@@ -147,18 +147,6 @@ fn each_form_at_a_word(rt: HostRuntime) {
 }
 
 #[test]
-fn each_form_at_a_signed_word(rt: HostRuntime) {
-    let expected = Expected {
-        ones_be: &[1, 2, 3, 4, 5, 6, 7],
-        ones_le: &[0, 1, 2, 3, 4, 5, 6],
-        zeros_be: &[0],
-        zeros_le: &[7],
-    };
-    holds!(rt; borrowed(&-2i8, &expected));
-    holds!(rt; owned(-2i8, &expected));
-}
-
-#[test]
 fn each_form_at_an_array_and_a_slice(rt: HostRuntime) {
     let expected = Expected {
         ones_be: &[3, 14, 16, 17, 18, 19, 20, 21, 22, 23],
@@ -173,24 +161,6 @@ fn each_form_at_an_array_and_a_slice(rt: HostRuntime) {
     holds!(rt; borrowed(&shared, &expected));
     let lent: &mut [u8] = &mut words;
     holds!(rt; borrowed(&lent, &expected));
-}
-
-#[test]
-fn each_form_at_a_nested_array(rt: HostRuntime) {
-    let expected = Expected {
-        ones_be: &[8, 31],
-        ones_le: &[15, 24],
-        zeros_be: &[
-            0, 1, 2, 3, 4, 5, 6, 7, 9, 10, 11, 12, 13, 14, 15, 16, 17, 18, 19, 20, 21, 22, 23, 24,
-            25, 26, 27, 28, 29, 30,
-        ],
-        zeros_le: &[
-            0, 1, 2, 3, 4, 5, 6, 7, 8, 9, 10, 11, 12, 13, 14, 16, 17, 18, 19, 20, 21, 22, 23, 25,
-            26, 27, 28, 29, 30, 31,
-        ],
-    };
-    holds!(rt; borrowed(&[[0u8, 1], [0, 128]], &expected));
-    holds!(rt; owned([[0u8, 1], [0, 128]], &expected));
 }
 
 // Returns whether `size_hint` is `(0, None)` both before and after an iterator's first step.
@@ -308,17 +278,6 @@ fn a_clone_goes_on_apart(rt: HostRuntime) -> Result<(), Fail> {
     ];
     go_on_apart(&rt, bits.iter_ones(), &before, &after)?;
     Ok(())
-}
-
-#[test]
-fn worked_searches(rt: HostRuntime) {
-    let bits = [0x10u8, 0x01];
-    same!(rt; bits.first_one_in::<BigEndian>(5, 16), Some(8));
-    same!(rt; bits.first_one_in::<BigEndian>(5, 8), None);
-    same!(rt; bits.last_one_in::<BigEndian>(0, 8), Some(4));
-    same!(rt; bits.first_zero_in::<BigEndian>(4, 16), Some(5));
-    same!(rt; bits.last_zero_in::<BigEndian>(0, 9), Some(7));
-    same!(rt; bits.first_one_in::<BigEndian>(4, 4), None);
 }
 
 #[test]
