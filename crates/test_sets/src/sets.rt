@@ -111,17 +111,6 @@ fn sets_are_walked_in_their_order(rt: HostRuntime) {
 }
 
 #[test]
-fn changes_reach_the_slice_that_was_lent(rt: HostRuntime) {
-    let mut slice = [0x01u8, 0x10];
-    {
-        let mut set = Set::from_mut_le(&mut slice);
-        holds!(rt; walks(&set, &[7, 11]));
-        set.set_bit(4);
-    }
-    same!(rt; slice, [0x09, 0x10]);
-}
-
-#[test]
 fn an_operator_changes_the_slice_that_was_lent(rt: HostRuntime) {
     let mut left = [1u8, 2];
     let mut right = [4u8];
@@ -138,39 +127,32 @@ fn two_sets() -> (Set<[u32; 4]>, Set<[u32; 4]>) {
     (set![1, 65], set![65, 110])
 }
 
-#[test]
-fn unions_of_values_and_references(rt: HostRuntime) {
-    let (a, b) = two_sets();
-    for union in [a | b, a | &b, &a | b, &a | &b] {
-        holds!(rt; union == set![1, 65, 110]);
-        same!(rt; union.into_bits(), [2, 0, 2, 0x4000]);
-    }
+// Returns what `|`, `&`, `^` and `-` make of two sets. Each side of an operator is a value or a
+// reference, in all four ways.
+fn forms<T: BitsOwned>(a: Set<T>, b: Set<T>) -> [[Set<T>; 4]; 4] {
+    [
+        [a | b, a | &b, &a | b, &a | &b],
+        [a & b, a & &b, &a & b, &a & &b],
+        [a ^ b, a ^ &b, &a ^ b, &a ^ &b],
+        [a - b, a - &b, &a - b, &a - &b],
+    ]
 }
 
 #[test]
-fn conjunctions_of_values_and_references(rt: HostRuntime) {
+fn operators_of_values_and_references(rt: HostRuntime) {
     let (a, b) = two_sets();
-    for conjunction in [a & b, a & &b, &a & b, &a & &b] {
-        holds!(rt; conjunction == set![65]);
-        same!(rt; conjunction.into_bits(), [0, 0, 2, 0]);
+    let [unions, conjunctions, one_alone, differences] = forms(a, b);
+    for set in unions {
+        same!(rt; set.into_bits(), [2, 0, 2, 0x4000]);
     }
-}
-
-#[test]
-fn symmetric_differences_of_values_and_references(rt: HostRuntime) {
-    let (a, b) = two_sets();
-    for just_one in [a ^ b, a ^ &b, &a ^ b, &a ^ &b] {
-        holds!(rt; just_one == set![1, 110]);
-        same!(rt; just_one.into_bits(), [2, 0, 0, 0x4000]);
+    for set in conjunctions {
+        same!(rt; set.into_bits(), [0, 0, 2, 0]);
     }
-}
-
-#[test]
-fn differences_of_values_and_references(rt: HostRuntime) {
-    let (a, b) = two_sets();
-    for difference in [a - b, a - &b, &a - b, &a - &b] {
-        holds!(rt; difference == set![1]);
-        same!(rt; difference.into_bits(), [2, 0, 0, 0]);
+    for set in one_alone {
+        same!(rt; set.into_bits(), [2, 0, 0, 0x4000]);
+    }
+    for set in differences {
+        same!(rt; set.into_bits(), [2, 0, 0, 0]);
     }
 }
 
@@ -248,23 +230,9 @@ fn joins<B: Bits>(rt: &impl Abort, mask: &B, items: &[u8], expected: &[Option<u8
     steps(rt, mask.join_ones(items.iter()), expected);
 }
 
-// Checks what a join in little-endian order yields, step by step.
-fn joins_le<B: Bits>(rt: &impl Abort, mask: &B, items: &[u8], expected: &[Option<u8>])
-    requires { ShapeFits B.Shape mask.now }
-{
-    steps(rt, mask.join_ones_le(items.iter()), expected);
-}
-
 #[test]
 fn a_join_reads_its_mask_in_the_default_order(rt: HostRuntime) {
     let set = Set::new_le(0b1101_0000u8);
     let expected = [Some(b'e'), Some(b'g'), Some(b'h'), None, None];
     joins(&rt, &set, b"abcdefgh", &expected);
-}
-
-#[test]
-fn a_join_reads_its_mask_in_the_order_that_is_named(rt: HostRuntime) {
-    let set = Set::new_le(0b1101_0000u8);
-    let expected = [Some(b'a'), Some(b'b'), Some(b'd'), None, None];
-    joins_le(&rt, &set, b"abcdefgh", &expected);
 }
