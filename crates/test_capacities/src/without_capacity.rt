@@ -285,9 +285,9 @@ fn listed<B: BitsOwned>(rt: &impl Abort)
     reads(rt, &listed_be::<B>());
 }
 
-// The next two functions check every call on arrays of zero or four elements. Each adds one level of
-// arrays, so that a type of several levels is proved in less time. The second takes an argument of
-// the type, which shows that the type fits into memory.
+// The next two functions check every call on arrays of zero or four elements. Each adds one level
+// of arrays, so that a type of several levels is proved in less time. The second takes an argument
+// of the type, which shows that the type fits into memory.
 fn owned_none<T: BitsOwned>(rt: &impl Abort) {
     owned::<[T; 0]>(rt);
 }
