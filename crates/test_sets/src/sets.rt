@@ -129,19 +129,22 @@ fn two_sets() -> (Set<[u32; 4]>, Set<[u32; 4]>) {
 
 // Returns what `|`, `&`, `^` and `-` make of two sets. Each side of an operator is a value or a
 // reference, in all four ways.
-fn forms<T: BitsOwned>(a: Set<T>, b: Set<T>) -> [[Set<T>; 4]; 4] {
-    [
+fn forms<T: BitsOwned>(
+    a: Set<T>,
+    b: Set<T>,
+) -> ([Set<T>; 4], [Set<T>; 4], [Set<T>; 4], [Set<T>; 4]) {
+    (
         [a | b, a | &b, &a | b, &a | &b],
         [a & b, a & &b, &a & b, &a & &b],
         [a ^ b, a ^ &b, &a ^ b, &a ^ &b],
         [a - b, a - &b, &a - b, &a - &b],
-    ]
+    )
 }
 
 #[test]
 fn operators_of_values_and_references(rt: HostRuntime) {
     let (a, b) = two_sets();
-    let [unions, conjunctions, one_alone, differences] = forms(a, b);
+    let (unions, conjunctions, one_alone, differences) = forms(a, b);
     for set in unions {
         same!(rt; set.into_bits(), [2, 0, 2, 0x4000]);
     }
