@@ -1,4 +1,4 @@
-//! The debug texts of the allocator's requests, answers and error, and texts that are cut off.
+//! The texts of the allocator's requests, answers and error, and texts that are cut off.
 
 use crate::checks::{holds, same};
 use bit_pages::{Answer, NotTaken, Request};
@@ -75,4 +75,8 @@ fn a_text_that_was_cut_off_is_an_error(rt: HostRuntime) {
     holds!(rt; write!(short, "{:?}", NotTaken).is_err());
     let mut short = Short { left: 1 };
     holds!(rt; write!(short, "{:?}", Answer::Page(7)).is_err());
+    let mut short = Short { left: 0 };
+    holds!(rt; write!(short, "{NotTaken}").is_err());
+    let mut whole = Short { left: 1 };
+    holds!(rt; write!(whole, "{NotTaken}").is_ok());
 }

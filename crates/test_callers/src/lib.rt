@@ -9,8 +9,6 @@ mod checks;
 #[cfg(test)]
 mod debug_texts;
 #[cfg(test)]
-mod error_texts;
-#[cfg(test)]
 mod everyday_callers;
 #[cfg(test)]
 mod requests;

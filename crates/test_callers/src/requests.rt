@@ -5,7 +5,6 @@ ghost use Rattle.bittle.specs.Shapes.{Fits};
 use crate::checks::{holds, same};
 use bit_pages::{Answer, NotTaken, Pages, Request};
 use bittle::{BitsOwned, LittleEndian, Set};
-use std::test::Fail;
 
 // Serves requests, some of which give back a page that is not taken. Returns the answers, and how
 // many pages are taken at the end.
@@ -44,25 +43,11 @@ fn answers_to_some() -> ([Answer; 7], u32) {
 #[test]
 fn pages_of_an_integer(rt: HostRuntime) {
     same!(rt; serve_some::<u8>(), answers_to_some());
-    same!(rt; serve_some::<i128>(), answers_to_some());
-}
-
-#[test]
-fn pages_of_an_array(rt: HostRuntime) {
-    same!(rt; serve_some::<[u8; 1]>(), answers_to_some());
-    same!(rt; serve_some::<[u16; 3]>(), answers_to_some());
-}
-
-#[test]
-fn pages_of_a_nested_array(rt: HostRuntime) {
-    same!(rt; serve_some::<[[u8; 1]; 1]>(), answers_to_some());
-    same!(rt; serve_some::<[[u16; 2]; 3]>(), answers_to_some());
 }
 
 #[test]
 fn pages_of_a_set_of_the_other_order(rt: HostRuntime) {
     same!(rt; serve_some::<Set<u8, LittleEndian>>(), answers_to_some());
-    same!(rt; serve_some::<Set<[[u8; 2]; 2], LittleEndian>>(), answers_to_some());
 }
 
 #[test]
@@ -96,7 +81,6 @@ fn ask_of_two<B: BitsOwned>() -> ([u32; 3], [bool; 3])
 #[test]
 fn counts_and_questions(rt: HostRuntime) {
     same!(rt; ask_of_two::<u8>(), ([8, 1, 7], [false, true, false]));
-    same!(rt; ask_of_two::<[[u16; 2]; 3]>(), ([96, 1, 95], [false, true, false]));
     same!(rt; ask_of_two::<Set<[u8; 3], LittleEndian>>(), ([24, 1, 23], [false, true, false]));
 }
 
@@ -141,33 +125,8 @@ fn answers_of_eight() -> ([Answer; 11], u32) {
 
 #[test]
 fn all_pages_taken(rt: HostRuntime) {
-    same!(rt; serve_past_the_last::<[u8; 1]>(), answers_of_eight());
     same!(rt; serve_past_the_last::<u8>(), answers_of_eight());
-    same!(rt; serve_past_the_last::<[[u8; 1]; 1]>(), answers_of_eight());
     same!(rt; serve_past_the_last::<Set<i8, LittleEndian>>(), answers_of_eight());
-}
-
-#[test]
-fn numbers_past_the_last_page(rt: HostRuntime) {
-    let mut pages = Pages::<Set<u8, LittleEndian>>::new();
-    let mut answers = [Answer::Full; 5];
-    let requests = [
-        Request::Take,
-        Request::GiveBack(4_294_967_295),
-        Request::GiveBack(8),
-        Request::GiveBack(0),
-        Request::Take,
-    ];
-    pages.serve(&requests, &mut answers);
-    let expected = [
-        Answer::Page(0),
-        Answer::NotTaken,
-        Answer::NotTaken,
-        Answer::Given,
-        Answer::Page(0),
-    ];
-    same!(rt; answers, expected);
-    same!(rt; pages.taken(), 1);
 }
 
 // Returns an allocator after two pages were taken and page 0 was given back.
@@ -197,8 +156,6 @@ fn same_and_not<B: BitsOwned, C: BitsOwned>() -> (bool, bool)
 fn the_same_pages_in_two_orders(rt: HostRuntime) {
     let answers = same_and_not::<u16, Set<[u8; 2], LittleEndian>>();
     same!(rt; answers, (true, false));
-    let turned = same_and_not::<Set<[u8; 2], LittleEndian>, u16>();
-    same!(rt; turned, (true, false));
 }
 
 #[test]
@@ -215,7 +172,7 @@ fn the_same_pages_of_fewer_and_more(rt: HostRuntime) {
 }
 
 #[test]
-fn what_is_not_taken(rt: HostRuntime) -> Result<(), Fail> {
+fn what_is_not_taken(rt: HostRuntime) {
     let mut pages = Pages::<u8>::new();
     same!(rt; pages.give_back(0), Err(NotTaken));
     same!(rt; pages.take(), Some(0));
@@ -225,7 +182,4 @@ fn what_is_not_taken(rt: HostRuntime) -> Result<(), Fail> {
     same!(rt; pages.taken(), 1);
     same!(rt; pages.give_back(0), Ok(()));
     same!(rt; pages.taken(), 0);
-    let text = format!(in rt.alloc(); "{NotTaken}")?;
-    same!(rt; text.as_str(), "the page is not taken");
-    Ok(())
 }
