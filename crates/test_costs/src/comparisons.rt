@@ -7,7 +7,7 @@ ghost use Rattle.bittle.specs.Shapes.{Fits};
 ghost use Rattle.bittle.specs.Values.{ShapeFits};
 
 use crate::asked::{Asked, counts};
-use crate::checks::{holds, same};
+use crate::checks::holds;
 use crate::probe::{ONES, Probe};
 use crate::word_probe::WordProbe;
 use bittle::{Bits, BitsOwned, Set, Shape};
@@ -134,40 +134,11 @@ fn equality_fetches_each_word_once(rt: HostRuntime) {
 }
 
 #[test]
-fn equality_ends_with_the_four_words_that_differ(rt: HostRuntime) {
-    // The first four of eight words are fetched, and are compared in one test. Then the first two
-    // of them are fetched again to find the index of the difference.
-    let (left, right) = (Asked::new(), Asked::new());
-    let other = [[1, 2, 0, 128], ONES];
-    holds!(rt; bytes_are(Relation::Unequal, Sides::Rows, [ONES; 2], &left, other, &right));
-    holds!(rt; left.is_at_most(6) && right.is_at_most(6));
-}
-
-#[test]
-fn comparisons_end_with_the_four_words_that_differ(rt: HostRuntime) {
-    // Only the right set has the member 9. So the word of index 9 is fetched once more from the
-    // left set. Then the words of this set are fetched from there up to a member past 9.
-    let (left, right) = (Asked::new(), Asked::new());
-    let relation = Relation::Ordered(Ordering::Greater);
-    let other = [[1, 2, 0, 128], ONES];
-    holds!(rt; bytes_are(relation, Sides::Rows, [ONES; 2], &left, other, &right));
-    holds!(rt; left.is_at_most(10));
-    holds!(rt; right.is_at_most(6));
-}
-
-#[test]
 fn words_after_the_last_four_are_compared_one_by_one(rt: HostRuntime) {
     let (left, right) = (Asked::new(), Asked::new());
     let sides = Sides::Elements(Second::ThreeBytes);
     holds!(rt; bytes_are(Relation::Unequal, sides, [ONES; 2], &left, [ONES; 2], &right));
     holds!(rt; left.is_at_most(2));
-}
-
-#[test]
-fn comparisons_of_eight_words_fetch_each_once(rt: HostRuntime) {
-    let (left, right) = (Asked::new(), Asked::new());
-    holds!(rt; bytes_are(Relation::Equal, Sides::Rows, [ONES; 2], &left, [ONES; 2], &right));
-    holds!(rt; left.is_at_most(8) && right.is_at_most(8));
 }
 
 #[test]
@@ -177,16 +148,6 @@ fn comparisons_with_a_longer_side_fetch_each_word_once(rt: HostRuntime) {
     let other = [ONES, [0; 4]];
     holds!(rt; bytes_are(Relation::Equal, Sides::ElementAndRow, [ONES; 2], &left, other, &right));
     holds!(rt; left.is_at_most(4) && right.is_at_most(8));
-}
-
-#[test]
-fn comparisons_ask_the_other_side_for_a_member_past_the_index(rt: HostRuntime) {
-    // Only the left set has the member 9.
-    let (left, right) = (Asked::new(), Asked::new());
-    let (relation, one) = (Relation::Ordered(Ordering::Less), [[1, 2, 0, 128]; 2]);
-    let sides = Sides::Elements(Second::Element);
-    holds!(rt; bytes_are(relation, sides, one, &left, [ONES; 2], &right));
-    same!(rt; right.other(), 0);
 }
 
 #[test]

@@ -27,7 +27,7 @@ impl Reading for Walk {
         few: &B,
         most: &B,
         one: &B,
-        _none: &B,
+        none: &B,
         _low: &B,
         _lower: &B,
         asked: &Asked,
@@ -44,7 +44,7 @@ impl Reading for Walk {
             }
             Walk::RangeViews => view_ranges(rt, few, asked),
             Walk::TwoSets => {
-                view_conjunction(rt, few, one, asked);
+                view_conjunction(rt, few, one, none, asked);
                 view_difference(rt, few, one, asked);
                 view_union(rt, few, one, asked);
                 view_symmetric_difference(rt, few, one, asked);
@@ -114,8 +114,8 @@ fn a_view_asks_what_a_call_on_its_set_asks(rt: HostRuntime) {
     read_rows(&rt, Walk::OneSet);
 }
 
-// A search may fetch one word outside of the range: word 0 or the last word. If it finds no bit in the
-// range, it stops at the end of the range.
+// A search may fetch one word outside of the range: word 0 or the last word. If it finds no bit in
+// the range, it stops at the end of the range.
 fn view_ranges<B: Bits>(rt: &impl Abort, few: &B, asked: &Asked)
     requires { ShapeFits B.Shape few.now }
 {
@@ -134,12 +134,14 @@ fn a_view_of_a_range_fetches_the_words_of_the_range(rt: HostRuntime) {
     read_rows(&rt, Walk::RangeViews);
 }
 
-// Reads a view of the intersection of two sets.
-fn view_conjunction<A: Bits, B: Bits>(rt: &impl Abort, left: &A, right: &B, asked: &Asked)
+// Reads views of the intersection of a set with a second set, and with an empty set.
+fn view_conjunction<A: Bits, B: Bits>(rt: &impl Abort, left: &A, right: &B, none: &B, asked: &Asked)
     requires left { ShapeFits A.Shape left.now }
     requires right { ShapeFits B.Shape right.now }
+    requires none { ShapeFits B.Shape none.now }
 {
     costs!(rt; asked, left.and(right).count_ones(), 1, 24, 0);
+    costs!(rt; asked, left.and(none).all_zeros(), true, 24, 0);
 }
 
 // Reads a view of the members that only the first of two sets has.

@@ -5,7 +5,9 @@
 
 ghost use Rattle.bittle.specs.Values.{ShapeFits};
 
-use crate::asked::Asked;
+use crate::asked::{Asked, counts};
+use crate::checks::same;
+use crate::probe::{ONES, Probe};
 use crate::probe_rows::{Reading, costs, read_rows};
 use bittle::{Bits, LittleEndian};
 use bittle_ext::{BitsRelationExt, BitsViewExt};
@@ -127,4 +129,23 @@ fn relate_in_two_orders<B: Bits>(rt: &impl Abort, left: &B, right: &B, asked: &A
 #[test]
 fn relations_in_two_orders_search_from_item_to_item(rt: HostRuntime) {
     read_rows(&rt, Pair::TwoOrders);
+}
+
+// Returns how many members two sets have in common.
+fn count_common<A: Bits, B: Bits>(left: &A, right: &B) -> u32
+    requires left { ShapeFits A.Shape left.now }
+    requires right { ShapeFits B.Shape right.now }
+{
+    left.count_common(right)
+}
+
+#[test]
+fn a_count_of_common_members_fetches_no_word_past_a_shorter_first_set(rt: HostRuntime) {
+    // The first set has four words and the members 0 and 31. The second set has eight words and the
+    // members 0, 31, 32 and 63.
+    let (ours, theirs) = (Asked::new(), Asked::new());
+    let row = [Probe::of(ONES, &theirs); 2];
+    same!(rt; count_common(&Probe::of(ONES, &ours), &row), 2);
+    counts!(rt; ours, 4, 0);
+    counts!(rt; theirs, 4, 0);
 }

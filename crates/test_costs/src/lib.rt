@@ -33,8 +33,6 @@ mod probe_rows;
 #[cfg(test)]
 mod replays;
 #[cfg(test)]
-mod rotations;
-#[cfg(test)]
 mod rows;
 #[cfg(test)]
 mod searches;
@@ -44,8 +42,6 @@ mod sets;
 mod spans;
 #[cfg(test)]
 mod tiers;
-#[cfg(test)]
-mod views;
 #[cfg(test)]
 mod walked;
 #[cfg(test)]

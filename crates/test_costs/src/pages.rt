@@ -7,7 +7,7 @@ ghost use Rattle.bittle.specs.Shapes.{Fits};
 
 use crate::asked::{Asked, counts};
 use crate::checks::{holds, same};
-use crate::probe::{ONES, Probe, ZEROS};
+use crate::probe::{ONES, Probe};
 use crate::probe_rows::{TWO, costs, row_of};
 use bit_pages::{Answer, Pages, Request};
 use bittle::{BitsOwned, Shape};
@@ -16,84 +16,30 @@ use std::process::Abort;
 // What is done with an allocator of 32 pages.
 #[derive(Drop)]
 enum Use {
-    Take,
-    GiveBack,
     Count,
     Serve,
     Compare,
 }
 
 // Makes the calls of `kind` on an allocator with the map `map`. Only a comparison uses `other`.
-fn use_pages<B: BitsOwned>(rt: &impl Abort, kind: Use, map: B, other: B, asked: &Asked)
+fn use_pages<B: BitsOwned>(rt: &impl Abort, kind: Use, map: B, other: B)
     requires { Fits B.indexable B.type_capacity }
 {
     let pages = Pages::with_taken(map);
     match kind {
-        Use::Take => take_two(rt, pages, asked),
-        Use::GiveBack => give_one_back(rt, pages, asked),
         Use::Count => count(rt, pages),
         Use::Serve => serve_three(rt, pages),
         Use::Compare => holds!(*rt; pages.same_pages(&Pages::with_taken(other))),
     }
 }
 
-// Does the same as `use_pages` with the maps of `bytes` and of `ONES`. Tests for each map how many
-// words are fetched, and how many other calls are made.
-fn use_bytes(
-    rt: &impl Abort,
-    kind: Use,
-    bytes: [u8; 4],
-    of_ours: (u32, u32),
-    of_theirs: (u32, u32),
-) {
+// Does the same as `use_pages` with two maps of `ONES`. Tests for each map how many words are
+// fetched, and how many other calls are made.
+fn use_ones(rt: &impl Abort, kind: Use, of_ours: (u32, u32), of_theirs: (u32, u32)) {
     let (ours, theirs) = (Asked::new(), Asked::new());
-    use_pages(
-        rt,
-        kind,
-        Probe::of(bytes, &ours),
-        Probe::of(ONES, &theirs),
-        &ours,
-    );
+    use_pages(rt, kind, Probe::of(ONES, &ours), Probe::of(ONES, &theirs));
     counts!(*rt; ours, of_ours.0, of_ours.1);
     counts!(*rt; theirs, of_theirs.0, of_theirs.1);
-}
-
-// Takes page 0 and page 31. Then no page is free.
-fn take_two<B: BitsOwned>(rt: &impl Abort, mut pages: Pages<B>, asked: &Asked) {
-    // When the allocator was made, one call counted the members of the map.
-    counts!(*rt; asked, 0, 1);
-
-    // Page 0 is free. The search for it fetches only the first word.
-    same!(*rt; pages.take(), Some(0));
-    counts!(*rt; asked, 1, 2);
-
-    // Now only page 31 is free. The search for it fetches all four words.
-    same!(*rt; pages.take(), Some(31));
-    counts!(*rt; asked, 5, 3);
-
-    // Now no page is free. The allocator knows this from its count of taken pages.
-    same!(*rt; pages.take(), None);
-}
-
-#[test]
-fn taking_a_page_is_a_search_and_a_call(rt: HostRuntime) {
-    use_bytes(&rt, Use::Take, ZEROS, (5, 3), (0, 0));
-}
-
-// Gives page 31 back, and then two numbers that are not taken pages.
-fn give_one_back<B: BitsOwned>(rt: &impl Abort, mut pages: Pages<B>, asked: &Asked) {
-    holds!(*rt; pages.give_back(31).is_ok());
-    counts!(*rt; asked, 0, 3);
-
-    // Page 9 is not taken, and there is no page 32.
-    holds!(*rt; pages.give_back(9).is_err());
-    counts!(*rt; asked, 0, 4);
-    holds!(*rt; pages.give_back(32).is_err());
-}
-
-#[test]
-fn giving_a_page_back_is_two_calls(rt: HostRuntime) {
-    use_bytes(&rt, Use::GiveBack, ONES, (0, 4), (0, 0));
 }
 
 // Tests how many pages there are, how many of them are taken, and how many are free.
@@ -105,7 +51,7 @@ fn count<B: BitsOwned>(rt: &impl Abort, pages: Pages<B>) {
 
 #[test]
 fn a_map_is_counted_once(rt: HostRuntime) {
-    use_bytes(&rt, Use::Count, ONES, (0, 1), (0, 0));
+    use_ones(&rt, Use::Count, (0, 1), (0, 0));
 }
 
 // Serves three requests: give page 0 back, take a page, and give back page 9, which is not taken.
@@ -120,16 +66,16 @@ fn serve_three<B: BitsOwned>(rt: &impl Abort, mut pages: Pages<B>) {
 
 #[test]
 fn a_run_of_requests_asks_what_each_asks(rt: HostRuntime) {
-    use_bytes(&rt, Use::Serve, ONES, (1, 5), (0, 0));
+    use_ones(&rt, Use::Serve, (1, 5), (0, 0));
 }
 
 #[test]
 fn two_allocators_are_compared_word_by_word(rt: HostRuntime) {
-    use_bytes(&rt, Use::Compare, ONES, (4, 1), (4, 1));
+    use_ones(&rt, Use::Compare, (4, 1), (4, 1));
 }
 
 // Takes pages 451 and 508, the only free ones of 768 pages. Then gives back pages 100 to 199, which
-// lie in words 1 to 3, and page 451.
+// lie in words 1 to 3, and page 451. Then page 451 is not taken, and there is no page 768.
 fn change_many<B: BitsOwned>(rt: &impl Abort, most: B, asked: &Asked)
     requires { Fits B.indexable B.type_capacity }
 {
@@ -143,6 +89,8 @@ fn change_many<B: BitsOwned>(rt: &impl Abort, most: B, asked: &Asked)
     costs!(rt; asked, pages.give_back_run(100, 100).is_ok(), true, 3, 3);
     costs!(rt; asked, pages.give_back(451).is_ok(), true, 0, 2);
     costs!(rt; asked, pages.is_taken(451), false, 0, 1);
+    costs!(rt; asked, pages.give_back(451).is_err(), true, 0, 1);
+    costs!(rt; asked, pages.give_back(768).is_err(), true, 0, 0);
 }
 
 // Does the same as `change_many` for a row of any element type. For `[T; 12]` the calls are proved

@@ -3,9 +3,9 @@
 
 ghost use Rattle.std.specs.Prelude.{◌≤◌, IsTrue};
 
-use crate::asked::{Asked, counts};
+use crate::asked::Asked;
 use crate::probe_rows::{Measured, costs, measure_rows};
-use bittle::{BigEndian, BitsOwned};
+use bittle::{BigEndian, BitsOwned, Set};
 use bittle_ext::{BitsCombineExt, BitsCopyExt, BitsOwnedExt, BitsShiftExt, BitsSpanMutExt};
 use std::process::Abort;
 
@@ -14,7 +14,6 @@ use std::process::Abort;
 enum Kind {
     Ranges,
     All,
-    Complement,
     ByAnother,
     Moves,
     CopiedRange,
@@ -35,11 +34,11 @@ impl Measured for Kind {
         match self {
             Kind::Ranges => change_ranges(rt, few, asked),
             Kind::All => change_all(rt, few, asked),
-            Kind::Complement => complement(rt, few, asked),
             Kind::ByAnother => change_by_another(rt, few, one, asked),
             Kind::Moves => {
                 shift(rt, few, asked);
                 rotate(rt, few, asked);
+                move_from_left(rt, few, asked);
             }
             Kind::CopiedRange => copy_range(rt, few, asked),
         }
@@ -77,20 +76,6 @@ fn change_all<B: BitsOwned>(rt: &impl Abort, mut few: B, asked: &Asked)
 #[test]
 fn a_change_of_all_bits_asks_each_element_once(rt: HostRuntime) {
     measure_rows(&rt, Kind::All);
-}
-
-// `complement` subtracts the set from a full set. The words of the full set count no calls. They
-// read the words of the set directly, which is not a counted call.
-fn complement<B: BitsOwned>(rt: &impl Abort, few: B, asked: &Asked)
-    requires { IsTrue B.indexable }
-{
-    let _ = few.complement();
-    counts!(*rt; asked, 0, 0);
-}
-
-#[test]
-fn a_complement_asks_the_set_for_nothing_before_it_is_taken_away(rt: HostRuntime) {
-    measure_rows(&rt, Kind::Complement);
 }
 
 // Each call fetches each word of both sets, and writes each word of the first set.
@@ -145,6 +130,15 @@ fn rotate<B: BitsOwned>(rt: &impl Abort, mut few: B, asked: &Asked)
     costs!(rt; asked, { let _ = few.rotated_down(65); }, (), 24, 12);
     costs!(rt; asked, few.rotate_down(200), (), 47, 35);
     costs!(rt; asked, few.rotate_up(65), (), 25, 14);
+}
+
+// In the order `LittleEndian` a shift and a rotation cost the same as in the other order.
+fn move_from_left<B: BitsOwned>(rt: &impl Abort, few: B, asked: &Asked)
+    requires { IsTrue B.indexable }
+{
+    let set = Set::new_le(few);
+    costs!(rt; asked, { let _ = set.shifted_down(65); }, (), 21, 12);
+    costs!(rt; asked, { let _ = set.rotated_down(65); }, (), 24, 12);
 }
 
 #[test]

@@ -1,11 +1,11 @@
 //! Tests that a search in a range fetches the words from one bound up to the found bit, each once.
 
-ghost use Rattle.std.specs.Prelude.{◌*◌, ◌≤◌, IsTrue};
+ghost use Rattle.std.specs.Prelude.{◌≤◌};
 
-use crate::asked::{Asked, counts};
-use crate::checks::{holds, same};
+use crate::asked::Asked;
+use crate::checks::same;
 use crate::probe::Probe;
-use bittle::{BigEndian, Bits, BitsOwned, Endian, LittleEndian, Shape};
+use bittle::{BigEndian, Bits, Endian, LittleEndian};
 use std::process::Abort;
 
 // What is searched for in a range.
@@ -79,64 +79,4 @@ fn searches_of_the_last_zero_fetch_down_to_it(rt: HostRuntime) {
     find::<BigEndian>(&rt, Search::LastZero, MOST, 9, 24, None, 0b0110);
     find::<LittleEndian>(&rt, Search::LastZero, MOST, 0, 24, Some(15), 0b0110);
     find::<LittleEndian>(&rt, Search::LastZero, MOST, 15, 15, None, 0);
-}
-
-// What is read of a row of twelve words: the last or the first set bit of an empty row, or the
-// count of the set bits in a range of a full row.
-#[derive(Drop)]
-enum Question {
-    Last,
-    First,
-    Count,
-}
-
-// Reads a row of 96 bits. Tests what the call returns, and how many words it fetches.
-fn ask<B: BitsOwned>(rt: &impl Abort, question: Question, row: B, asked: &Asked)
-    requires indexable { IsTrue B.indexable }
-    requires long { 96 ≤ B.type_capacity }
-{
-    match question {
-        Question::Last => {
-            same!(*rt; row.last_one_in::<BigEndian>(0, 96), None);
-            holds!(*rt; asked.is_at_most(12));
-        }
-        Question::First => {
-            same!(*rt; row.first_one_in::<BigEndian>(0, 96), None);
-            holds!(*rt; asked.is_at_most(12));
-        }
-        Question::Count => {
-            same!(*rt; row.count_ones_in_range_in::<LittleEndian>(9, 90), 81);
-            counts!(*rt; asked, 11, 0);
-        }
-    }
-}
-
-// Does the same as `ask` for a row of any element type. For `[T; 3]` the calls are proved in less
-// time than for `[Probe; 3]`.
-fn ask_any_row<T: BitsOwned>(rt: &impl Abort, question: Question, row: [T; 3], asked: &Asked)
-    requires indexable { IsTrue ⟦<[T; 3] as Shape>⟧.indexable }
-    requires long { 96 ≤ 3 * T.type_capacity }
-{
-    ask(rt, question, row, asked);
-}
-
-// Does the same as `ask` for a row of three sets. Each set has four bytes that equal `byte`.
-fn ask_bytes(rt: &impl Abort, question: Question, byte: u8) {
-    let asked = Asked::new();
-    ask_any_row(rt, question, [Probe::of([byte; 4], &asked); 3], &asked);
-}
-
-#[test]
-fn searches_from_the_back_of_twelve_words_fetch_each_once(rt: HostRuntime) {
-    ask_bytes(&rt, Question::Last, 0);
-}
-
-#[test]
-fn searches_from_the_front_of_twelve_words_fetch_each_once(rt: HostRuntime) {
-    ask_bytes(&rt, Question::First, 0);
-}
-
-#[test]
-fn counts_of_a_range_fetch_each_word_once(rt: HostRuntime) {
-    ask_bytes(&rt, Question::Count, 255);
 }

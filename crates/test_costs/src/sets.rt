@@ -7,7 +7,6 @@ use crate::checks::{holds, same};
 use crate::probe::{ONES, Probe, ZEROS};
 use bittle::{BigEndian, Bits, BitsMut, BitsOwned, Set};
 use std::alloc::{AllocError, Global};
-use std::hash::{DefaultHasher, Hash};
 use std::process::Abort;
 use std::test::Fail;
 
@@ -15,60 +14,28 @@ use std::test::Fail;
 #[derive(Drop)]
 enum Use {
     Union,
-    Conjunction,
-    SymmetricDifference,
-    Difference,
     Clone,
-    Hash,
     Text,
     Reads,
     Changes,
 }
 
-// Tests the six forms of an operator. Each form makes one call to the left set or to a copy of it,
-// and makes no call to the right set.
-macro_rules! operators {
-    ($rt:expr; $left:ident, $one:expr; $right:ident, $other:expr; $operator:tt, $assigning:tt) => {{
-        let (mut a, b) = (Set::new($one), Set::new($other));
-        let _ = a $operator b;
-        let _ = a $operator &b;
-        let _ = &a $operator b;
-        let _ = &a $operator &b;
-        counts!($rt; $left, 0, 4);
-        counts!($rt; $right, 0, 0);
-        a $assigning b;
-        a $assigning &b;
-        counts!($rt; $left, 0, 6);
-        counts!($rt; $right, 0, 0);
-    }};
-}
-
-// Unites two sets.
+// Unites two sets by the six forms of the operator. Each form makes one call to the left set or to
+// a copy of it, and makes no call to the right set.
 fn unite<B: BitsOwned>(rt: &impl Abort, one: B, left: &Asked, other: B, right: &Asked)
     requires { IsTrue B.indexable }
 {
-    operators!(*rt; left, one; right, other; |, |=);
-}
-
-// Intersects two sets.
-fn conjoin<B: BitsOwned>(rt: &impl Abort, one: B, left: &Asked, other: B, right: &Asked)
-    requires { IsTrue B.indexable }
-{
-    operators!(*rt; left, one; right, other; &, &=);
-}
-
-// Takes the symmetric difference of two sets.
-fn toggle<B: BitsOwned>(rt: &impl Abort, one: B, left: &Asked, other: B, right: &Asked)
-    requires { IsTrue B.indexable }
-{
-    operators!(*rt; left, one; right, other; ^, ^=);
-}
-
-// Subtracts the second set from the first.
-fn subtract<B: BitsOwned>(rt: &impl Abort, one: B, left: &Asked, other: B, right: &Asked)
-    requires { IsTrue B.indexable }
-{
-    operators!(*rt; left, one; right, other; -, -=);
+    let (mut a, b) = (Set::new(one), Set::new(other));
+    let _ = a | b;
+    let _ = a | &b;
+    let _ = &a | b;
+    let _ = &a | &b;
+    counts!(*rt; left, 0, 4);
+    counts!(*rt; right, 0, 0);
+    a |= b;
+    a |= &b;
+    counts!(*rt; left, 0, 6);
+    counts!(*rt; right, 0, 0);
 }
 
 // Tests that a clone of a set succeeds.
@@ -77,13 +44,6 @@ fn clone_set<B: BitsOwned>(rt: &impl Abort, bits: B)
 {
     let set = Set::new(bits);
     holds!(*rt; set.clone().is_ok());
-}
-
-// Hashes a set.
-fn hash_set<B: BitsOwned>(bits: B)
-    requires { IsTrue B.indexable }
-{
-    Set::new(bits).hash(&mut DefaultHasher::new());
 }
 
 // Prints a set with the members 0 and 31.
@@ -153,11 +113,7 @@ fn use_sets<B: BitsOwned>(
 {
     match kind {
         Use::Union => unite(rt, one, left, other, right),
-        Use::Conjunction => conjoin(rt, one, left, other, right),
-        Use::SymmetricDifference => toggle(rt, one, left, other, right),
-        Use::Difference => subtract(rt, one, left, other, right),
         Use::Clone => clone_set(rt, one),
-        Use::Hash => hash_set(other),
         Use::Text => print_set(rt, alloc, one)?,
         Use::Reads => ask_or_change(rt, true, one, left),
         Use::Changes => ask_or_change(rt, false, one, left),
@@ -165,64 +121,28 @@ fn use_sets<B: BitsOwned>(
     Ok(())
 }
 
-// Makes the calls of `kind` on the sets of `ONES` and of `ZEROS`. Tests for each set how many words
-// are fetched, and how many other calls are made.
+// Makes the calls of `kind` on the sets of `ONES` and of `ZEROS`. Tests how many words of the first
+// set are fetched, and how many other calls it gets. The second set gets no call.
 fn use_probes(
     rt: &impl Abort,
     alloc: Global,
     kind: Use,
-    of_ones: (u32, u32),
-    of_zeros: (u32, u32),
+    fetched: u32,
+    others: u32,
 ) -> Result<(), Fail> {
     let (left, right) = (Asked::new(), Asked::new());
     let (one, other) = (Probe::of(ONES, &left), Probe::of(ZEROS, &right));
     use_sets(rt, alloc, kind, one, &left, other, &right)?;
-    counts!(*rt; left, of_ones.0, of_ones.1);
-    counts!(*rt; right, of_zeros.0, of_zeros.1);
+    counts!(*rt; left, fetched, others);
+    counts!(*rt; right, 0, 0);
     Ok(())
 }
 
 #[test]
-fn unions_of_sets_make_one_call(rt: HostRuntime) -> Result<(), Fail> {
-    use_probes(&rt, rt.alloc(), Use::Union, (0, 6), (0, 0))
-}
-
-#[test]
-fn conjunctions_of_sets_make_one_call(rt: HostRuntime) -> Result<(), Fail> {
-    use_probes(&rt, rt.alloc(), Use::Conjunction, (0, 6), (0, 0))
-}
-
-#[test]
-fn symmetric_differences_of_sets_make_one_call(rt: HostRuntime) -> Result<(), Fail> {
-    use_probes(&rt, rt.alloc(), Use::SymmetricDifference, (0, 6), (0, 0))
-}
-
-#[test]
-fn differences_of_sets_make_one_call(rt: HostRuntime) -> Result<(), Fail> {
-    use_probes(&rt, rt.alloc(), Use::Difference, (0, 6), (0, 0))
-}
-
-#[test]
-fn a_clone_of_a_set_asks_nothing(rt: HostRuntime) -> Result<(), Fail> {
-    use_probes(&rt, rt.alloc(), Use::Clone, (0, 0), (0, 0))
-}
-
-#[test]
-fn a_hash_of_a_set_fetches_each_word_once(rt: HostRuntime) -> Result<(), Fail> {
-    use_probes(&rt, rt.alloc(), Use::Hash, (0, 0), (4, 0))
-}
-
-#[test]
-fn a_text_of_a_set_fetches_each_word_once(rt: HostRuntime) -> Result<(), Fail> {
-    use_probes(&rt, rt.alloc(), Use::Text, (4, 0), (0, 0))
-}
-
-#[test]
-fn reading_a_set_makes_one_call(rt: HostRuntime) -> Result<(), Fail> {
-    use_probes(&rt, rt.alloc(), Use::Reads, (0, 5), (0, 0))
-}
-
-#[test]
-fn changing_a_set_makes_one_call(rt: HostRuntime) -> Result<(), Fail> {
-    use_probes(&rt, rt.alloc(), Use::Changes, (0, 4), (0, 0))
+fn a_call_on_a_set_makes_one_call_or_fetches_each_word_once(rt: HostRuntime) -> Result<(), Fail> {
+    use_probes(&rt, rt.alloc(), Use::Union, 0, 6)?;
+    use_probes(&rt, rt.alloc(), Use::Clone, 0, 0)?;
+    use_probes(&rt, rt.alloc(), Use::Text, 4, 0)?;
+    use_probes(&rt, rt.alloc(), Use::Reads, 0, 5)?;
+    use_probes(&rt, rt.alloc(), Use::Changes, 0, 4)
 }

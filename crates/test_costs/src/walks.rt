@@ -53,25 +53,6 @@ fn answers_each<W: DoubleEndedIterator<Item = u32> + Drop>(
         && answers(&mut walk, asked, fourth)
 }
 
-// Returns whether a walk over twelve words yields these items and then ends, with at most twelve
-// fetches. All steps are from one end.
-fn yields<W: DoubleEndedIterator<Item = u32> + Drop>(
-    mut walk: W,
-    asked: &Asked,
-    step: Step,
-    items: [u32; 6],
-) -> bool
-    requires front { (w : W) → W.can_next w }
-    requires back { (w : W) → W.can_next_back w }
-{
-    for item in items {
-        if !answers(&mut walk, asked, (step, Some(item), 12)) {
-            return false;
-        }
-    }
-    answers(&mut walk, asked, (step, None, 12))
-}
-
 // Clones a walk after its first step, and steps both to the end. Returns whether cloning fetches no
 // word, and whether both then fetch each of the three words that are left once.
 fn clones_frugally<W: DoubleEndedIterator<Item = u32> + Clone + Drop>(
@@ -107,12 +88,10 @@ fn clones_for_nothing<W: Iterator<Item = u32> + Clone + Drop>(walk: W, asked: &A
     asked.is_at_most(1) && other.next() == Some(0) && asked.is_at_most(1)
 }
 
-// What is tested of a walk: four steps, all items from one end, a clone after the first step, or a
-// clone before it.
+// What is tested of a walk: four steps, a clone after the first step, or a clone before it.
 #[derive(Clone, Copy)]
 enum Test {
     Steps([Stepped; 4]),
-    Items(Step, [u32; 6]),
     LateClone,
     Clone,
 }
@@ -128,7 +107,6 @@ fn passes<W: DoubleEndedIterator<Item = u32> + Clone + Drop>(
 {
     match test {
         Test::Steps(steps) => answers_each(walk, asked, steps),
-        Test::Items(step, items) => yields(walk, asked, step, items),
         Test::LateClone => clones_frugally(walk, asked),
         Test::Clone => clones_for_nothing(walk, asked),
     }
@@ -275,18 +253,6 @@ fn walk_of_row_passes<T: BitsOwned>(form: Form, row: [T; 3], asked: &Asked, test
 fn walk_of_twelve_passes(form: Form, test: Test) -> bool {
     let asked = Asked::new();
     walk_of_row_passes(form, [Probe::of(ONES, &asked); 3], &asked, test)
-}
-
-#[test]
-fn walks_of_twelve_words_fetch_each_once(rt: HostRuntime) {
-    let test = Test::Items(Step::Front, [0, 31, 32, 63, 64, 95]);
-    holds!(rt; walk_of_twelve_passes(Form::IterOnes, test));
-}
-
-#[test]
-fn owned_walks_of_twelve_words_fetch_each_once(rt: HostRuntime) {
-    let test = Test::Items(Step::Back, [95, 64, 63, 32, 31, 0]);
-    holds!(rt; walk_of_twelve_passes(Form::IntoIterOnes, test));
 }
 
 #[test]
