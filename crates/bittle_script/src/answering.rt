@@ -13,7 +13,7 @@ use crate::command::Command;
 use crate::header::{Header, Order, Shape};
 use crate::lines::Lines;
 use crate::writing::{Output, WriteFailed};
-use bittle::{BigEndian, Bits, BitsMut, BitsOwned, Endian, LittleEndian, Set, set};
+use bittle::{BigEndian, Bits, BitsMut, BitsOwned, Endian, LittleEndian};
 use std::io::Write;
 
 /// How a run ended, if its output did not fail.
@@ -106,7 +106,7 @@ fn answer_lines<B: BitsOwned, E: Endian, W: Write>(
     ensures answers { IsGiven W.contents output.old output.new result
         (line_answers (empty_set B.type_capacity) (lines_left lines.entry)) }
 {
-    let mut bits = empty_value::<B>();
+    let mut bits = B::zeros();
     for line in lines {
         if line.text.is_empty() {
             continue;
@@ -117,14 +117,6 @@ fn answer_lines<B: BitsOwned, E: Endian, W: Write>(
         obey::<B, E, W>(command, &mut bits, output)?;
     }
     Ok(Outcome::Answered)
-}
-
-/// Returns the value of type `B` in which no bit is set.
-fn empty_value<B: BitsOwned>() -> B
-    requires { IsTrue B.indexable }
-    ensures { B.big result ≡ empty_set B.type_capacity }
-{
-    set![]
 }
 
 /// Carries out `command` on `bits`, and prints the answer if the command has one.
@@ -151,7 +143,7 @@ fn obey<B: BitsOwned, E: Endian, W: Write>(
         }
         Command::Test(index) => print_bit(bits.test_bit_in::<E>(index), output),
         Command::Count => print_number(bits.count_ones(), output),
-        Command::Ones => print_members::<B, E, W>(&Set::new_in(*bits), output),
+        Command::Ones => print_members::<B, E, W>(bits, output),
     }
 }
 
@@ -181,15 +173,16 @@ fn print_number<W: Write>(number: u32, output: &mut Output<'_, W>) -> Result<(),
 /// Prints a line with the indexes of the set bits in increasing order, separated by one space. The
 /// line is empty if no bit is set.
 fn print_members<B: BitsOwned, E: Endian, W: Write>(
-    set: &Set<B, E>,
+    bits: &B,
     output: &mut Output<'_, W>,
 ) -> Result<(), WriteFailed>
+    requires { IsTrue B.indexable }
     ensures same_writer { output.new.writer.ghost_name ≡ output.old.writer.ghost_name }
     ensures prints { Puts W.contents output.old output.new result
-        (line_of_members (set_in B.Shape E.Endian set.now.bits)) }
+        (line_of_members (set_in B.Shape E.Endian bits.now)) }
 {
     let mut space: &[u8] = b"";
-    for member in set.iter_ones() {
+    for member in bits.iter_ones_in::<E>() {
         output.put_after(space, member)?;
         space = b" ";
     }

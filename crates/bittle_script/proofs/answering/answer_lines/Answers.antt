@@ -7,7 +7,7 @@ pub loop-line-init : goal.loop-line-init
 loop-line-init g c = record {
   same_writer = refl;
   under_way = under_way-begins g.W.Write.contents c.args.output.now _ _ (rw
-      (c.into_iter-line-iterator.ensures.into_iter_gives, c.empty_value-bits.ensures) refl);
+      (c.into_iter-line-iterator.ensures.into_iter_gives, c.zeros-bits.ensures.in_each_order) refl);
 }
 
 pub returns-in_default-clause-answers : goal.returns-in_default-clause-answers

@@ -7,7 +7,7 @@ use Rattle.bittle_script.proofs.answering.print_members.Goals as goal
 
 pub loop-member-init : goal.loop-member-init
 loop-member-init g c =
-    let left = sym c.iter_ones-member-items.ensures.remaining
+    let left = sym c.iter_ones_in-member-items.ensures.remaining
     ∙ ap (λ w. w.remaining) (sym c.into_iter-member-iterator.ensures.into_iter_gives) in
     let line = ap (λ l. l ++ codes "\n")
     (join_by-spaced_numbers _ ∙ ap (spaced_numbers []) left) in

@@ -10,6 +10,6 @@ abbrev pub invariant-loop-member : goal.invariant-loop-member
 invariant-loop-member g l = record {
   same_writer : l.output.writer.ghost_name ≡ l.initial.output.writer.ghost_name;
   begun : HasPut g.W.Write.contents l.initial.output l.output
-      (line_of_members (set_in g.B.Shape g.E.Endian l.set.bits))
+      (line_of_members (set_in g.B.Shape g.E.Endian l.bits))
       (spaced_numbers l.space l.member-iterator.remaining ++ codes "\n");
 }
