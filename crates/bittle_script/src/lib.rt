@@ -90,7 +90,7 @@ fn answer_input<R: Read, W: Write>(
     ensures same_writer { output.new.writer.ghost_name ≡ output.old.writer.ghost_name }
     ensures answered { IsAnswered (R.remaining input.old) W.contents output.old output.new result }
 {
-    let mut bytes = [0; reading::ROOM];
+    let mut bytes = [0; reading::INPUT_ROOM];
     match reading::read_all(input, &mut bytes) {
         Ok(len) => answering::answer(&bytes[..len], output),
         Err(refusal) => {

@@ -1,7 +1,6 @@
 //! Reads the whole input into one array.
-ghost use Rattle.std.specs.Prelude.{◌≤◌, ◌<◌, ◌≡◌, take, length, IfOk, IfSome, IsTrue, ◌↔◌, MatchResult};
+ghost use Rattle.std.specs.Prelude.{◌≤◌, ◌<◌, ◌≡◌, take, length, IfOk, IfSome, IsTrue, ◌↔◌};
 ghost use Rattle.std.specs.IoError.{error_kind};
-ghost use Rattle.std.specs.Io.KnownBytes.{Consumes, IsAtEnd};
 
 use std::io::{Error, ErrorKind, Read};
 
@@ -10,7 +9,7 @@ pub const MOST_BYTES: usize = 4096;
 
 /// The size of the array that the input is read into: one byte more than an input may have, so that
 /// a longer input is noticed.
-pub const ROOM: usize = 4097;
+pub const INPUT_ROOM: usize = MOST_BYTES + 1;
 
 /// The most calls of `read` in a run.
 const MOST_READS: u32 = 8192;
@@ -40,7 +39,7 @@ impl Refusal {
 
 /// Reads the whole input into the start of `bytes`, and returns how many bytes the input has.
 /// Returns a refusal if the input is too long, or if it cannot be read to its end.
-pub fn read_all<R: Read>(input: &mut R, bytes: &mut [u8; ROOM]) -> Result<usize, Refusal>
+pub fn read_all<R: Read>(input: &mut R, bytes: &mut [u8; INPUT_ROOM]) -> Result<usize, Refusal>
     ensures fits { IfOk result (λ len. len ≤ MOST_BYTES) }
     ensures all { IfOk result
         (λ len. IfSome (R.remaining input.old) (λ text. take len bytes.new ≡ text)) }

@@ -1,26 +1,27 @@
 //! Bytes that wait to be written.
-ghost use Rattle.std.specs.Prelude.{◌<◌, ◌≤◌, ◌≡◌, ◌∷◌, ◌++◌, [], true, false, length};
+ghost use Rattle.std.specs.Prelude.{◌<◌, ◌≡◌, ◌∷◌, ◌++◌, [], true, false, length};
 
 use std::marker::Model;
 
 /// How many bytes may wait.
-const ROOM: usize = 4096;
+const MOST_WAITING: usize = 4096;
 
 /// A buffer of bytes that wait to be written.
 #[derive(Drop)]
 pub struct Waiting {
-    bytes: [u8; ROOM],
+    bytes: [u8; MOST_WAITING],
     len: usize,
 }
 
 impl Model for Waiting {
     ghost use Rattle.std.specs.Prelude.{List, ℕ, ◌≤◌, take};
+    ghost use Rattle.bittle_script.specs.declared.waiting.TheConstants.{MOST_WAITING};
 
     ghost Value = { List ℕ };
 
     ghost view = { λ w. take w.len w.bytes };
 
-    ghost invariant = { λ w. w.len ≤ 4096 };
+    ghost invariant = { λ w. w.len ≤ MOST_WAITING };
 }
 
 impl Waiting {
@@ -29,7 +30,7 @@ impl Waiting {
         ensures { result ≡ [] }
     {
         Waiting {
-            bytes: [0; ROOM],
+            bytes: [0; MOST_WAITING],
             len: 0,
         }
     }
@@ -43,15 +44,15 @@ impl Waiting {
 
     /// Returns whether the buffer is full.
     pub fn is_full(&self) -> bool
-        ensures full { result ≡ true → length self.now ≡ 4096 }
-        ensures room { result ≡ false → length self.now < 4096 }
+        ensures full { result ≡ true → length self.now ≡ MOST_WAITING }
+        ensures room { result ≡ false → length self.now < MOST_WAITING }
     {
-        self.len == ROOM
+        self.len == MOST_WAITING
     }
 
     /// Adds a byte at the end. The buffer must not be full.
     pub fn push(&mut self, byte: u8)
-        requires { length self.old < 4096 }
+        requires { length self.old < MOST_WAITING }
         ensures { self.new ≡ self.old ++ byte ∷ [] }
     {
         self.bytes[self.len] = byte;

@@ -3,27 +3,28 @@ ghost use Rattle.std.specs.Prelude.{◌<◌, ◌≤◌, ◌≡◌, ◌↔◌, Is
 ghost use Rattle.std.specs.Fmt.{decimal};
 ghost use Rattle.std.specs.IoError.{error_kind};
 ghost use Rattle.bittle_script.specs.Beginnings.{Writes};
-ghost use Rattle.bittle_script.specs.declared.writing.TheConstants.{MOST_INTERRUPTED};
+ghost use Rattle.bittle_script.specs.declared.writing.TheConstants.{FATAL_INTERRUPTION};
 
 use crate::reading::is_interrupted;
 use crate::waiting::Waiting;
 use std::io::{Error, ErrorKind, Write};
 
-/// The number of interrupted writes at which a run fails.
-const MOST_INTERRUPTED: u32 = 8192;
+/// The number of the interrupted write at which a run fails.
+const FATAL_INTERRUPTION: u32 = 8192;
 
 /// The error of a run whose output failed. After it nothing more is written. Only this module makes
 /// a value of this type.
 #[derive(Debug, Drop)]
 pub struct WriteFailed(());
 
-/// The output of a run. Bytes wait in a buffer until it is full, or until the output is flushed.
+/// The output of a run. Bytes wait in a buffer. They are written when the buffer is full and one
+/// more byte is added, or when the output is flushed.
 #[derive(Drop)]
 pub struct Output<'a, W> {
     writer: &'a mut W,
     interrupted: u32,
     waiting: Waiting,
-    ghost goes_on: { interrupted < MOST_INTERRUPTED },
+    ghost goes_on: { interrupted < FATAL_INTERRUPTION },
 }
 
 impl<'a, W: Write> Output<'a, W> {
@@ -125,7 +126,7 @@ impl<'a, W: Write> Output<'a, W> {
     }
 
     // Counts a write that was interrupted. Returns `Err` if this is interruption number
-    // `MOST_INTERRUPTED`, and at any other error.
+    // `FATAL_INTERRUPTION`, and at any other error.
     fn note_failure(&mut self, error: &Error) -> Result<(), WriteFailed>
         ensures same_writer { self.new.writer ≡ self.old.writer }
         ensures same_bytes { self.new.waiting ≡ self.old.waiting }
@@ -133,9 +134,9 @@ impl<'a, W: Write> Output<'a, W> {
         ensures more { OnOk result (self.new.interrupted ≡ self.old.interrupted + 1) }
         ensures interrupted { self.old.interrupted ≤ self.new.interrupted }
         ensures last { error_kind error.now ≡ ErrorKind.Interrupted
-            → (IsErr result ↔ (self.old.interrupted + 1 ≡ MOST_INTERRUPTED)) }
+            → (IsErr result ↔ (self.old.interrupted + 1 ≡ FATAL_INTERRUPTION)) }
     {
-        if !is_interrupted(error) || self.interrupted + 1 == MOST_INTERRUPTED {
+        if !is_interrupted(error) || self.interrupted + 1 == FATAL_INTERRUPTION {
             return Err(WriteFailed(()));
         }
         self.interrupted += 1;
