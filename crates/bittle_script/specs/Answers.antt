@@ -79,7 +79,7 @@ header_in (line ∷ lines) = header_of line.1
 -- line 1
 abbrev pub header_answers : Option Header → List (ℕ × List ℕ) → Answers
 header_answers None lines = refusal_at 1
-header_answers (Some header) lines = line_answers (empty_set (capacity_of header.shape)) lines
+header_answers (Some header) lines = line_answers (empty_set (capacity_of header.set_type)) lines
 
 -- the answers to a script
 abbrev pub script_answers : List ℕ → Answers

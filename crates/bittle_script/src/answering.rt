@@ -10,7 +10,7 @@ ghost use Rattle.bittle_script.specs.declared.reading.TheConstants.{MOST_BYTES};
 ghost use Rattle.bittle.specs.Values.{set_in};
 
 use crate::command::Command;
-use crate::header::{Header, Order, Shape};
+use crate::header::{Header, Order, SetType};
 use crate::lines::Lines;
 use crate::writing::{Output, WriteFailed};
 use bittle::{BigEndian, Bits, BitsMut, BitsOwned, Endian, LittleEndian};
@@ -61,7 +61,7 @@ fn take_header(lines: &mut Lines<'_>) -> Option<Header>
     Header::parse(lines.next()?.text)
 }
 
-/// Answers `lines`, the lines after the header. The header names the bit order and the shape of the
+/// Answers `lines`, the lines after the header. The header names the bit order and the type of the
 /// set on which the commands work.
 fn answer_in_order<W: Write>(
     header: Header,
@@ -70,30 +70,30 @@ fn answer_in_order<W: Write>(
 ) -> Result<Outcome, WriteFailed>
     ensures same_writer { output.new.writer.ghost_name ≡ output.old.writer.ghost_name }
     ensures answers { IsGiven W.contents output.old output.new result
-        (line_answers (empty_set (capacity_of header.shape)) (lines_left lines.entry)) }
+        (line_answers (empty_set (capacity_of header.set_type)) (lines_left lines.entry)) }
 {
     match header.order {
-        Order::Big => answer_shape::<BigEndian, W>(header.shape, lines, output),
-        Order::Little => answer_shape::<LittleEndian, W>(header.shape, lines, output),
+        Order::Big => answer_type::<BigEndian, W>(header.set_type, lines, output),
+        Order::Little => answer_type::<LittleEndian, W>(header.set_type, lines, output),
     }
 }
 
-/// Answers `lines`. The commands work on a set of the shape `shape`, in the bit order `E`.
-fn answer_shape<E: Endian, W: Write>(
-    shape: Shape,
+/// Answers `lines`. The commands work on a set of the type `set_type`, in the bit order `E`.
+fn answer_type<E: Endian, W: Write>(
+    set_type: SetType,
     lines: Lines<'_>,
     output: &mut Output<'_, W>,
 ) -> Result<Outcome, WriteFailed>
     ensures same_writer { output.new.writer.ghost_name ≡ output.old.writer.ghost_name }
     ensures answers { IsGiven W.contents output.old output.new result
-        (line_answers (empty_set (capacity_of shape)) (lines_left lines.entry)) }
+        (line_answers (empty_set (capacity_of set_type)) (lines_left lines.entry)) }
 {
-    match shape {
-        Shape::U8 => answer_lines::<u8, E, W>(lines, output),
-        Shape::U8x4 => answer_lines::<[u8; 4], E, W>(lines, output),
-        Shape::U8x2x2 => answer_lines::<[[u8; 2]; 2], E, W>(lines, output),
-        Shape::U16x2 => answer_lines::<[u16; 2], E, W>(lines, output),
-        Shape::I32 => answer_lines::<i32, E, W>(lines, output),
+    match set_type {
+        SetType::U8 => answer_lines::<u8, E, W>(lines, output),
+        SetType::U8x4 => answer_lines::<[u8; 4], E, W>(lines, output),
+        SetType::U8x2x2 => answer_lines::<[[u8; 2]; 2], E, W>(lines, output),
+        SetType::U16x2 => answer_lines::<[u16; 2], E, W>(lines, output),
+        SetType::I32 => answer_lines::<i32, E, W>(lines, output),
     }
 }
 

@@ -1,4 +1,4 @@
-//! The first line of a script. It names the bit order and the shape of the set.
+//! The first line of a script. It names the bit order and the type of the set.
 ghost use Rattle.std.specs.Prelude.{◌≡◌};
 
 /// The order in which the bits of each word are indexed.
@@ -12,7 +12,7 @@ pub enum Order {
 
 /// A type that the set of a script may have.
 #[derive(Clone, Copy)]
-pub enum Shape {
+pub enum SetType {
     /// `u8`
     U8,
     /// `[u8; 4]`
@@ -25,42 +25,42 @@ pub enum Shape {
     I32,
 }
 
-impl Shape {
-    ghost use Rattle.bittle_script.specs.Headers.{shape_of};
+impl SetType {
+    ghost use Rattle.bittle_script.specs.Headers.{set_type_of};
 
-    /// Returns the shape with this name, or `None` if no shape has it.
-    fn parse(name: &[u8]) -> Option<Shape>
-        ensures { result ≡ shape_of name.now }
+    /// Returns the type with this name, or `None` if no type has it.
+    fn parse(name: &[u8]) -> Option<SetType>
+        ensures { result ≡ set_type_of name.now }
     {
         if name == b"u8".as_slice() {
-            Some(Shape::U8)
+            Some(SetType::U8)
         } else if name == b"u8x4".as_slice() {
-            Some(Shape::U8x4)
+            Some(SetType::U8x4)
         } else if name == b"u8x2x2".as_slice() {
-            Some(Shape::U8x2x2)
+            Some(SetType::U8x2x2)
         } else if name == b"u16x2".as_slice() {
-            Some(Shape::U16x2)
+            Some(SetType::U16x2)
         } else if name == b"i32".as_slice() {
-            Some(Shape::I32)
+            Some(SetType::I32)
         } else {
             None
         }
     }
 }
 
-/// The bit order and the shape that the first line of a script names.
+/// The bit order and the type of the set that the first line of a script names.
 #[derive(Clone, Copy)]
 pub struct Header {
     /// The order in which the set is read.
     pub order: Order,
     /// The type of the set.
-    pub shape: Shape,
+    pub set_type: SetType,
 }
 
 impl Header {
     ghost use Rattle.bittle_script.specs.Headers.{header_of};
 
-    /// Returns the bit order and the shape that a line such as `be u8x4` names, or `None` if the
+    /// Returns the bit order and the type that a line such as `be u8x4` names, or `None` if the
     /// line does not name both.
     pub fn parse(line: &[u8]) -> Option<Header>
         ensures { result ≡ header_of line.now }
@@ -70,7 +70,7 @@ impl Header {
         } else {
             (Order::Little, line.strip_prefix(b"le ")?)
         };
-        let shape = Shape::parse(name)?;
-        Some(Header { order, shape })
+        let set_type = SetType::parse(name)?;
+        Some(Header { order, set_type })
     }
 }

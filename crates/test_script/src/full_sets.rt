@@ -1,4 +1,4 @@
-//! Sets whose bits are set one after another, in each shape and in both orders: what `count` and
+//! Sets whose bits are set one after another, of each type and in both orders: what `count` and
 //! `ones` print.
 
 use crate::checks::same;

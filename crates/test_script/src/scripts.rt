@@ -72,7 +72,7 @@ fn refuses_the_first_bad_line(rt: HostRuntime) {
 }
 
 #[test]
-fn knows_each_shape_in_both_orders(rt: HostRuntime) -> Result<(), Fail> {
+fn knows_each_set_type_in_both_orders(rt: HostRuntime) -> Result<(), Fail> {
     let rows: [&[u8]; 5] = [
         b"u8\nset 0\ntest 8\ntest 7\ncount\n",
         b"u8x4\nset 0\ntest 32\ntest 31\ncount\n",
