@@ -1,10 +1,10 @@
 -- What a summary tells of the words of a set, and what keeps it right.
-use Rattle.std.proofs.Common.{◌≡◌, ◌≢◌, ℕ, suc, ◌+◌, ◌-◌, ◌*◌, ◌/◌, ◌%◌, ◌^◌, ◌<◌, ◌≤◌, Bool, true, false, not, cond, ◌&&◌, ◌==◌, nat_lt, nat_le, inl, inr, Some, None, IsTrue, refl, sym, ap, ◌∙◌, arith}
+use Rattle.std.proofs.Common.{◌≡◌, ◌≢◌, ℕ, suc, ◌+◌, ◌-◌, ◌*◌, ◌/◌, ◌%◌, ◌^◌, ◌<◌, ◌≤◌, Bool, true, false, not, cond, ◌&&◌, ◌==◌, nat_lt, nat_le, inl, inr, Option, Some, None, is_some, IsTrue, refl, sym, ap, ◌∙◌, arith}
 use Rattle.std.proofs.Math.Path.{fun_ext}
 use Rattle.std.proofs.Props.{props}
 use Rattle.std.proofs.Math.Nat.{pow-suc, div-add-mod', div-mul-le_self, le_of_mul-le-mul_right, lt_of_mul-lt-mul_right, mod-eq_of_lt, mul-le-mul_right}
 use Rattle.std.proofs.lemmas.Nat.{div-mul-add, div_below, mod_below}
-use Rattle.std.proofs.lemmas.Bool.{cases_eq, cases_lt, eq-eqb, eqb-true, ne_eqb, lt-ltb, le-ltb, lt-leb, true≢false}
+use Rattle.std.proofs.lemmas.Bool.{cases_eq, cases_lt, eq-eqb, eqb-true, ne_eqb, lt-ltb, le-ltb, lt-leb, true≢false, not-false, not-true}
 use Rattle.bittle_bits.specs.Ends.{IsEndIn}
 use Rattle.bittle.specs.BitPatterns.{bit_set}
 use Rattle.bittle.specs.Orders.{place, read_in}
@@ -19,7 +19,7 @@ use Rattle.bittle_bits.proofs.PlaceLemmas.{place_part, place_in_word, place-plac
 use Rattle.bittle_bits.proofs.PlainSets.{plain_set, has_with-in, has_without-in}
 use Rattle.bittle_bits.proofs.Sizes.{size-complement}
 use Rattle.bittle_bits.proofs.Words.{word_has-at, word_ends}
-use Rattle.bittle_tiers.specs.Tiers.{even_summary, some_in_word, StopsAtBit, Summarizes, SummarizesBelow, SameWordsBut, TellsAround}
+use Rattle.bittle_tiers.specs.Tiers.{even_summary, some_in_word, StopsAtBit, Summarizes, SummarizesOutside, SameWordsBut}
 
 -- any two proofs that a map may have a summary are equal; so are any two proofs that the summary is
 -- right
@@ -262,7 +262,7 @@ module _ (ones : Bool) (w : ℕ) (s t : PlainSet) (word : 0 < w)
   stops_none false low high = λ h. absurd (omega (arith, h))
 
   -- if the summary has no member, the set has no bit of the kind
-  pub none_at_all : (words : ℕ) → s.capacity ≡ words * w → NoneIn t 0 words →
+  none_at_all : (words : ℕ) → s.capacity ≡ words * w → NoneIn t 0 words →
       size (ones_or_zeros ones s) ≡ 0
   none_at_all words all none =
       let size_is = ones_or_zeros-capacity ones s in
@@ -272,7 +272,7 @@ module _ (ones : Bool) (w : ℕ) (s t : PlainSet) (word : 0 < w)
       ∙ count-never (ones_or_zeros ones s).capacity
 
   -- if the summary has a member, the set has a bit of the kind
-  pub some_at_all : (k : ℕ) → k * w < s.capacity → t.has k ≡ true →
+  some_at_all : (k : ℕ) → k * w < s.capacity → t.has k ≡ true →
       size (ones_or_zeros ones s) ≢ 0
   unfolding some_in_word
   some_at_all k within told = λ none.
@@ -287,6 +287,16 @@ module _ (ones : Bool) (w : ℕ) (s t : PlainSet) (word : 0 < w)
       let nothing : size (ones_or_zeros ones (word_of w s k)) ≡ 0 =
       ap size (ones_or_zeros-word_of ones w k s ends) ∙ empty in
       true≢false (sym told ∙ tells k within ∙ ap not (eq-eqb _ 0 nothing))
+
+  -- a search of the whole summary finds no member exactly if the set has no bit of the kind
+  pub none_exactly : (words : ℕ) → s.capacity ≡ words * w → (r : Option ℕ) (b : Bool) →
+      is_some r ≡ not b → IsEndIn true t 0 words r → b ≡ (size (ones_or_zeros ones s) == 0)
+  none_exactly words all None b e found =
+      not-false b (sym e) ∙ sym (eq-eqb _ 0 (none_at_all words all found))
+  none_exactly words all (Some k) b e found =
+      let up : (k + 1) * w ≤ words * w = mul-le-mul_right w (omega (arith, found.1)) in
+      not-true b (sym e)
+      ∙ sym (ne_eqb _ 0 (some_at_all k (omega (arith, up, all, word)) found.2))
 
 -- a set lacks no number exactly if its size is its capacity
 pub full_where_none_lacks : (s : PlainSet) →
@@ -411,28 +421,26 @@ renewed ones w k s t u v tells same size here others = λ j within. elim (cases_
       others j n ∙ tells j inside ∙ some_in_same ones w j s t (sym (same j n inside))
 ]
 
--- a summary that is right before word k, and is updated for word k, is right before word k + 1
-pub one_more : (ones : Bool) (w k : ℕ) (s u v : PlainSet) → SummarizesBelow ones w s u k →
-    v.has k ≡ some_in_word ones w s k → ((j : ℕ) → j ≢ k → v.has j ≡ u.has j) →
-    SummarizesBelow ones w s v (k + 1)
-one_more ones w k s u v tells here others = λ j below within. elim (cases_eq j k) [
+-- a summary that is right outside the words k..to, and is updated for word k, is right outside the
+-- words after k
+pub one_more : (ones : Bool) (w k to : ℕ) (s u v : PlainSet) →
+    SummarizesOutside ones w s u k to → v.has k ≡ some_in_word ones w s k →
+    ((j : ℕ) → j ≢ k → v.has j ≡ u.has j) → SummarizesOutside ones w s v (k + 1) to
+one_more ones w k to s u v tells here others = λ j out within. elim (cases_eq j k) [
   | inl e ↦ rw e here
-  | inr n ↦ others j n ∙ tells j (omega arith) within
+  | inr n ↦ others j n ∙ tells j (λ l. out (omega (arith, l, n))) within
 ]
 
 -- after a change of a span, the old summary is right except for the words that have a bit of the
 -- span
-pub tells_around : (ones : Bool) (change : Bool → Bool) (m : Bool) (w from to : ℕ)
+pub tells_outside : (ones : Bool) (change : Bool → Bool) (m : Bool) (w from to : ℕ)
     (s t u : PlainSet) → 0 < w → from < to →
     read_in m w t ≡ with_span_changed change (read_in m w s) from to → t.capacity ≡ s.capacity →
-    Summarizes ones w s u → TellsAround ones w t u (from / w) ((to - 1) / w) (from / w)
-tells_around ones change m w from to s t u word some changed size tells = λ j inside within.
+    Summarizes ones w s u → SummarizesOutside ones w t u (from / w) ((to - 1) / w + 1)
+tells_outside ones change m w from to s t u word some changed size tells = λ j out within.
     tells j (omega (arith, within, size)) ∙ some_in_same ones w j s t (sym
     (same_around change m w from to s t word some changed j
-    (λ lo hi. not_below j (from / w) lo (inside lo hi))))
-  where
-    not_below : (j k : ℕ) → k ≤ j → j < k → ⊥
-    not_below j k lo hi = absurd (omega arith)
+    (λ lo hi. absurd (omega (arith, hi, out lo)))))
 
 -- how many bits of a kind each word of an empty set has, and each word of a full set
 module _ (w c k : ℕ) (word : 0 < w) (whole : (words : ℕ) × (c ≡ words * w)) (within : k * w < c)

@@ -13,14 +13,9 @@ some_in_word ones w s k = not (size (ones_or_zeros ones (word_of w s k)) == 0)
 abbrev pub Summarizes : Bool → ℕ → PlainSet → PlainSet → Type 0
 Summarizes ones w s t = (k : ℕ) → k * w < s.capacity → t.has k ≡ some_in_word ones w s k
 
--- `Summarizes` for each word of s, except those words of first..=last that are at or past word n
-abbrev pub TellsAround : Bool → ℕ → PlainSet → PlainSet → ℕ → ℕ → ℕ → Type 0
-TellsAround ones w s t first last n = (j : ℕ) → (first ≤ j → j ≤ last → j < n) →
-    j * w < s.capacity → t.has j ≡ some_in_word ones w s j
-
--- `Summarizes` for each word of s before word n
-abbrev pub SummarizesBelow : Bool → ℕ → PlainSet → PlainSet → ℕ → Type 0
-SummarizesBelow ones w s t n = (j : ℕ) → j < n → j * w < s.capacity →
+-- `Summarizes` for each word of s outside the words from..to
+abbrev pub SummarizesOutside : Bool → ℕ → PlainSet → PlainSet → ℕ → ℕ → Type 0
+SummarizesOutside ones w s t from to = (j : ℕ) → (from ≤ j → to ≤ j) → j * w < s.capacity →
     t.has j ≡ some_in_word ones w s j
 
 -- the words of two sets are the same, except word k

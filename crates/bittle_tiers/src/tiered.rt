@@ -174,10 +174,7 @@ impl<B: ReadWords + FixedCapacity, S: FixedCapacity, K: Kind> FixedCapacity for 
     fn fixed_capacity() -> u32 {
         let bits = B::fixed_capacity();
         let summary = S::fixed_capacity();
-        if bits == u32::MAX || summary == u32::MAX {
-            return u32::MAX;
-        }
-        if summary < bits / word_width::<B>() {
+        if bits == u32::MAX || summary == u32::MAX || summary < bits / word_width::<B>() {
             return u32::MAX;
         }
         bits
@@ -314,7 +311,7 @@ impl<B: BitsMut + FixedCapacity, S: BitsOwned, K: Kind> BitsMut for Tiered<B, S,
             &self.map,
             &mut self.summary,
             (from / width) as usize,
-            ((to - 1) / width) as usize,
+            ((to - 1) / width) as usize + 1,
         );
     }
 

@@ -9,7 +9,7 @@ ghost use Rattle.bittle.specs.Searches.{PassesOver, TellsGroups};
 ghost use Rattle.bittle.specs.Values.{set_in, ShapeFits};
 ghost use Rattle.bittle.specs.Walk.{ones_or_zeros};
 ghost use Rattle.bittle_tiers.specs.Tiers.{even_summary, some_in_word, StopsAtBit};
-ghost use Rattle.bittle_tiers.specs.Tiers.{Summarizes, TellsAround};
+ghost use Rattle.bittle_tiers.specs.Tiers.{Summarizes, SummarizesOutside};
 
 use bittle_bits::bits::Bits;
 use bittle_bits::bits_mut::BitsMut;
@@ -101,9 +101,7 @@ pub(crate) fn rebuild<B: ReadWords + FixedCapacity, S: BitsMut + FixedCapacity, 
     ensures { Summarizes K.ONES B.width (B.big map.now) (S.big summary.new) }
 {
     let words = (B::fixed_capacity() / word_width::<B>()) as usize;
-    for k in 0..words {
-        refresh::<B, S, K>(map, summary, k, false);
-    }
+    refresh_range::<B, S, K>(map, summary, 0, words);
 }
 
 /// Returns whether no word of `map` has a bit of kind `K`. It reads only the summary.
@@ -119,31 +117,26 @@ pub(crate) fn has_none<B: ReadWords + FixedCapacity, S: ReadWords + FixedCapacit
     ensures { result ≡ (size (ones_or_zeros K.ONES (B.big map.now)) == 0) }
 {
     let words = B::fixed_capacity() / word_width::<B>();
-    match end_in::<S, BigEndian, Ones, Front>(summary, 0, words) {
-        Some(_) => false,
-        None => true,
-    }
+    end_in::<S, BigEndian, Ones, Front>(summary, 0, words).is_none()
 }
 
-/// Updates `summary` for the words `first..=last` of `map`. For all other words, the summary has to
-/// be right already.
+/// Updates `summary` for the words `from..to` of `map`. For all other words, the summary has to be
+/// right already.
 #[inline]
 pub(crate) fn refresh_range<B: ReadWords + FixedCapacity, S: BitsMut + FixedCapacity, K: Kind>(
     map: &B,
     summary: &mut S,
-    first: usize,
-    last: usize,
+    from: usize,
+    to: usize,
 )
     requires map_fits { IsTrue B.indexable }
     requires fits { IsTrue S.indexable }
     requires reaches { B.type_capacity ≤ S.type_capacity * B.width }
-    requires ordered { first ≤ last }
-    requires within { last * B.width < (B.big map.now).capacity }
-    requires others { TellsAround K.ONES B.width (B.big map.now) (S.big summary.old) first last
-        first }
+    requires within { to * B.width ≤ (B.big map.now).capacity }
+    requires others { SummarizesOutside K.ONES B.width (B.big map.now) (S.big summary.old) from to }
     ensures { Summarizes K.ONES B.width (B.big map.now) (S.big summary.new) }
 {
-    for k in first..last + 1 {
+    for k in from..to {
         refresh::<B, S, K>(map, summary, k, false);
     }
 }

@@ -1,6 +1,6 @@
 use Rattle.std.proofs.Common.{◌<◌, true, sym, ◌∙◌, arith}
 use Rattle.bittle.specs.Values.{set_in}
-use Rattle.bittle_tiers.proofs.Summaries.{span_empty, tells_around}
+use Rattle.bittle_tiers.proofs.Summaries.{span_empty, tells_outside}
 use Rattle.bittle_tiers.proofs.tiered.TieredBitsMut.assign_range_by_operation.Goals as goal
 
 pub returns-then-from-to-clause-set : goal.returns-then-from-to-clause-set
@@ -14,7 +14,7 @@ refresh_range-requires-clause-others g c =
     let after = c.assign_range_by_operation.new.self in
     let own = g.met.B.FixedCapacity in
     let some : c.args.from < c.args.to = omega (arith, c.requires.ordered, c.if-from-to.false) in
-    rw (c.word_width-width.ensures) (tells_around g.K.Kind.ONES
+    rw (c.word_width-width.ensures) (tells_outside g.K.Kind.ONES
     (λ b. g.O.Operation.decide b true) g.E.Endian.mirrored w c.args.from c.args.to
     (g.B.Shape.big before.map) (g.B.Shape.big after) (g.S.Shape.big before.summary)
     g.met.B.ReadWords.width_positive some c.assign_range_by_operation.ensures.set
