@@ -4,7 +4,7 @@ use Rattle.std.proofs.Math.Path.{fun_ext}
 use Rattle.std.proofs.Props.{props}
 use Rattle.std.proofs.Math.Nat.{pow-suc, div-add-mod', div-mul-le_self, le_of_mul-le-mul_right, lt_of_mul-lt-mul_right, mod-eq_of_lt, mul-le-mul_right}
 use Rattle.std.proofs.lemmas.Nat.{div-mul-add, div_below, mod_below}
-use Rattle.std.proofs.lemmas.Bool.{cases_eq, cases_lt, eq-eqb, eqb-true, ne_eqb, lt-ltb, le-ltb, lt-leb, true≢false, not-false, not-true}
+use Rattle.std.proofs.lemmas.Bool.{and_parts, cases_eq, cases_lt, eq-eqb, eqb-true, ne_eqb, lt-ltb, le-ltb, lt-leb, leb-true, true≢false, not-false, not-true}
 use Rattle.bittle_bits.specs.Ends.{IsEndIn}
 use Rattle.bittle.specs.BitPatterns.{bit_set}
 use Rattle.bittle.specs.Orders.{place, read_in}
@@ -19,7 +19,16 @@ use Rattle.bittle_bits.proofs.PlaceLemmas.{place_part, place_in_word, place-plac
 use Rattle.bittle_bits.proofs.PlainSets.{plain_set, has_with-in, has_without-in}
 use Rattle.bittle_bits.proofs.Sizes.{size-complement}
 use Rattle.bittle_bits.proofs.Words.{word_has-at, word_ends}
-use Rattle.bittle_tiers.specs.Tiers.{even_summary, some_in_word, StopsAtBit, Summarizes, SummarizesOutside, SameWordsBut}
+use Rattle.bittle_tiers.specs.Tiers.{uniform_summary, some_in_word, StopsAtBit, Summarizes, SummarizesOutside, can_summarize}
+
+-- `can_summarize` implies that the summary has a bit for each word of the map
+pub summary_reaches : (a b : Bool) (c d w : ℕ) → IsTrue (can_summarize a b c d w) → c ≤ d * w
+summary_reaches a b c d w h = leb-true c (d * w)
+    (and_parts b (nat_le c (d * w)) (and_parts a (b && nat_le c (d * w)) h).1).1
+
+-- the words of two sets are the same, except word k
+abbrev pub SameWordsBut : ℕ → PlainSet → PlainSet → ℕ → Type 0
+SameWordsBut w s t k = (j : ℕ) → j ≢ k → j * w < s.capacity → word_of w t j ≡ word_of w s j
 
 -- any two proofs that a map may have a summary are equal; so are any two proofs that the summary is
 -- right
@@ -32,10 +41,6 @@ tells_one ones w s t = hlevel props
 false_by : (b : Bool) → (b ≡ true → ⊥) → b ≡ false
 false_by true h = absurd (h refl)
 false_by false h = refl
-
-not_some : (b : Bool) → not b ≡ false → b ≡ true
-not_some true h = refl
-not_some false h = absurd (true≢false h)
 
 -- if d words reach the capacity, and word k begins at or below it, k is at most d
 pub reaches : (w k c own d : ℕ) → 0 < w → k * w ≤ c → c ≡ own → own ≤ d * w → k ≤ d
@@ -122,7 +127,7 @@ unfolding some_in_word
 none_in_word ones w k s within told = λ n lo hi.
     let word = ones_or_zeros-word_of ones w k s within in
     let empty : size (word_of w (ones_or_zeros ones s) k) ≡ 0 =
-    ap size (sym word) ∙ eqb-true _ 0 (not_some _ told) in
+    ap size (sym word) ∙ eqb-true _ 0 (not-false _ told) in
     let back : k * w + (n - k * w) ≡ n = omega arith in
     rw back at (sym (word_has-at w (ones_or_zeros ones s) k (n - k * w) (omega arith))
     ∙ none_passes (word_has w (ones_or_zeros ones s) k) w (n - k * w) empty (omega arith))
@@ -421,16 +426,6 @@ renewed ones w k s t u v tells same size here others = λ j within. elim (cases_
       others j n ∙ tells j inside ∙ some_in_same ones w j s t (sym (same j n inside))
 ]
 
--- a summary that is right outside the words k..to, and is updated for word k, is right outside the
--- words after k
-pub one_more : (ones : Bool) (w k to : ℕ) (s u v : PlainSet) →
-    SummarizesOutside ones w s u k to → v.has k ≡ some_in_word ones w s k →
-    ((j : ℕ) → j ≢ k → v.has j ≡ u.has j) → SummarizesOutside ones w s v (k + 1) to
-one_more ones w k to s u v tells here others = λ j out within. elim (cases_eq j k) [
-  | inl e ↦ rw e here
-  | inr n ↦ others j n ∙ tells j (λ l. out (omega (arith, l, n))) within
-]
-
 -- after a change of a span, the old summary is right except for the words that have a bit of the
 -- span
 pub tells_outside : (ones : Bool) (change : Bool → Bool) (m : Bool) (w from to : ℕ)
@@ -472,22 +467,22 @@ below_of : (w c d k : ℕ) → k * w < c → c ≤ d * w → k < d
 below_of w c d k within reach =
     let h : k * w < d * w = omega (arith, within, reach) in lt_of_mul-lt-mul_right w h
 
--- an even summary has each number or none
-even_has : (all : Bool) (d k : ℕ) → k < d → (even_summary all d).has k ≡ all
-even_has true d k h = lt-ltb k d h
-even_has false d k h = refl
+-- a uniform summary has each number or none
+uniform_has : (all : Bool) (d k : ℕ) → k < d → (uniform_summary all d).has k ≡ all
+uniform_has true d k h = lt-ltb k d h
+uniform_has false d k h = refl
 
--- the even summaries of an empty map and of a full map are right
+-- the uniform summaries of an empty map and of a full map are right
 pub empty_tells : (ones : Bool) (w c d : ℕ) (s u : PlainSet) → 0 < w →
     (words : ℕ) × (c ≡ words * w) → c ≤ d * w → s ≡ empty_set c →
-    u ≡ even_summary (not ones) d → Summarizes ones w s u
+    u ≡ uniform_summary (not ones) d → Summarizes ones w s u
 empty_tells ones w c d s u word whole reach is told = rw (is, told) (λ k within.
-    even_has (not ones) d k (below_of w c d k within reach)
+    uniform_has (not ones) d k (below_of w c d k within reach)
     ∙ sym (some_in_empty w c k word whole within ones))
 
 pub full_tells : (ones : Bool) (w c d : ℕ) (s u : PlainSet) → 0 < w →
     (words : ℕ) × (c ≡ words * w) → c ≤ d * w → s ≡ full_set c →
-    u ≡ even_summary ones d → Summarizes ones w s u
+    u ≡ uniform_summary ones d → Summarizes ones w s u
 full_tells ones w c d s u word whole reach is told = rw (is, told) (λ k within.
-    even_has ones d k (below_of w c d k within reach)
+    uniform_has ones d k (below_of w c d k within reach)
     ∙ sym (some_in_full w c k word whole within ones))

@@ -1,3 +1,3 @@
--- Definitions that the contracts of sets with a summary cite.
+-- What the contracts and the impls of sets with a summary cite.
 pub mod Tiers
 pub mod TierLaws

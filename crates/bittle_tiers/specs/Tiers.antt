@@ -1,6 +1,6 @@
 -- Number k is a member of a summary if word k of its map, which is a set too, has a bit of the
 -- summary's kind: a set bit if `ones` is true, else an unset bit. The words have w bits.
-use Rattle.std.specs.Prelude.{◌≡◌, ◌≢◌, ℕ, ◌*◌, ◌-◌, ◌<◌, ◌≤◌, Bool, true, false, not, ◌&&◌, ◌==◌, nat_le}
+use Rattle.std.specs.Prelude.{◌≡◌, ℕ, ◌*◌, ◌-◌, ◌<◌, ◌≤◌, Bool, true, false, not, ◌&&◌, ◌==◌, nat_le}
 use Rattle.bittle.specs.PlainSet.{PlainSet, empty_set, full_set, size}
 use Rattle.bittle.specs.Walk.{ones_or_zeros}
 use Rattle.bittle.specs.Words.{word_of}
@@ -18,10 +18,6 @@ abbrev pub SummarizesOutside : Bool → ℕ → PlainSet → PlainSet → ℕ �
 SummarizesOutside ones w s t from to = (j : ℕ) → (from ≤ j → to ≤ j) → j * w < s.capacity →
     t.has j ≡ some_in_word ones w s j
 
--- the words of two sets are the same, except word k
-abbrev pub SameWordsBut : ℕ → PlainSet → PlainSet → ℕ → Type 0
-SameWordsBut w s t k = (j : ℕ) → j ≢ k → j * w < s.capacity → word_of w t j ≡ word_of w s j
-
 -- a search through the words low..high, from the front if the first flag is true and else from the
 -- back, stopped at r: at a word with a bit of the kind (from the front word r, from the back word
 -- r - 1), or else at the other end
@@ -31,9 +27,9 @@ StopsAtBit false ones w s low high r = low < r → some_in_word ones w s (r - 1)
 
 -- the summary with capacity d of a map in which every word has a bit of the kind (if the flag is
 -- true), or no word has one (if it is false)
-abbrev pub even_summary : Bool → ℕ → PlainSet
-even_summary true d = full_set d
-even_summary false d = empty_set d
+abbrev pub uniform_summary : Bool → ℕ → PlainSet
+uniform_summary true d = full_set d
+uniform_summary false d = empty_set d
 
 -- whether a set of capacity d may summarize a map of capacity c: both may be indexed, and the
 -- summary has at least one bit for each word of the map

@@ -39,6 +39,9 @@ use std::marker::PhantomData;
 /// The summary needs one bit for each word of the map. If it has too few bits, the type does not
 /// fit: `bits()` returns `u32::MAX`, and no call makes a value.
 ///
+/// The types of the usual sizes, `Tiered4K`, `Tiered64K` and `Tiered256K`, also have `from(map)` and
+/// `default()`.
+///
 /// ```
 /// let mut taken = Tiered::<[u64; 64], u64, Zeros>::ones();
 /// taken.clear_bit(4000);
@@ -107,7 +110,7 @@ impl<B: BitsOwned, S: BitsOwned, K: Kind> Tiered<B, S, K> {
 
     /// Returns the map without its summary.
     ///
-    /// Always callable.
+    /// Always callable. The call costs O(1), plus the time to move the map.
     ///
     /// ```
     /// Tiered::<[u64; 2], u8, Ones>::new([0, 1]).into_map();           // [0, 1]
@@ -152,8 +155,8 @@ impl<B: Shape + Eq, S: Shape, K: Kind> Eq for Tiered<B, S, K> {
     ghost laws = { on_equiv (λ t. t.map) B.Eq.laws };
 }
 
-/// Prints the indexes of the set bits in increasing order between braces, as a `Set` of the map
-/// does. Format flags have no effect.
+/// Prints the indexes of the set bits in the map's own bit order, in increasing order between braces,
+/// as `{1, 14}`. Format flags have no effect.
 impl<B: Bits + FixedCapacity, S: ReadWords + FixedCapacity, K: Kind> fmt::Debug
     for Tiered<B, S, K> {
     ghost debug_output = { λ t. Some (set_text (set_in B.Shape B.Order.Endian t.map)) };
@@ -245,7 +248,7 @@ impl<B: Bits + FixedCapacity, S: ReadWords + FixedCapacity, K: Kind> Bits for Ti
     #[inline]
     fn all_zeros(&self) -> bool {
         if K::ONES {
-            upkeep::has_none::<B, S, K>(&self.map, &self.summary)
+            upkeep::all_words_have_none::<B, S, K>(&self.map, &self.summary)
         } else {
             self.map.all_zeros()
         }
@@ -256,7 +259,7 @@ impl<B: Bits + FixedCapacity, S: ReadWords + FixedCapacity, K: Kind> Bits for Ti
         if K::ONES {
             self.map.all_ones()
         } else {
-            upkeep::has_none::<B, S, K>(&self.map, &self.summary)
+            upkeep::all_words_have_none::<B, S, K>(&self.map, &self.summary)
         }
     }
 
@@ -266,17 +269,32 @@ impl<B: Bits + FixedCapacity, S: ReadWords + FixedCapacity, K: Kind> Bits for Ti
     }
 }
 
+// Sets the bit of `map` at `index` if `V` is `Ones`, and else clears it. An index at or past the
+// capacity wraps.
+#[inline]
+fn put_in_map<B: BitsMut, E: Endian, V: Kind>(map: &mut B, index: u32)
+    requires { IsTrue B.indexable }
+    ensures { set_in B.Shape E.Endian map.new
+        ≡ with_bit V.ONES (set_in B.Shape E.Endian map.old) index }
+{
+    if V::ONES {
+        map.set_bit_in::<E>(index);
+    } else {
+        map.clear_bit_in::<E>(index);
+    }
+}
+
 // Sets the bit at `index` if `V` is `Ones`, and else clears it. An index at or past the capacity
 // wraps. Then updates the summary for the word of that bit.
 #[inline]
-fn put_bit<B: BitsMut + FixedCapacity, S: BitsOwned, K: Kind, E: Endian, V: Kind>(
+fn put_and_refresh<B: BitsMut + FixedCapacity, S: BitsOwned, K: Kind, E: Endian, V: Kind>(
     tiered: &mut Tiered<B, S, K>,
     index: u32,
 )
     ensures { set_in B.Shape E.Endian tiered.new.map
         ≡ with_bit V.ONES (set_in B.Shape E.Endian tiered.old.map) index }
 {
-    upkeep::put_bit::<B, E, V>(&mut tiered.map, index);
+    put_in_map::<B, E, V>(&mut tiered.map, index);
     let bits = B::fixed_capacity();
     if bits != 0 {
         let at = index % bits;
@@ -288,17 +306,17 @@ fn put_bit<B: BitsMut + FixedCapacity, S: BitsOwned, K: Kind, E: Endian, V: Kind
 impl<B: BitsMut + FixedCapacity, S: BitsOwned, K: Kind> BitsMut for Tiered<B, S, K> {
     #[inline]
     fn set_bit_in<E: Endian>(&mut self, index: u32) {
-        put_bit::<B, S, K, E, Ones>(self, index);
+        put_and_refresh::<B, S, K, E, Ones>(self, index);
     }
 
     #[inline]
     fn clear_bit_in<E: Endian>(&mut self, index: u32) {
-        put_bit::<B, S, K, E, Zeros>(self, index);
+        put_and_refresh::<B, S, K, E, Zeros>(self, index);
     }
 
     fn clear_bits(&mut self) {
         self.map.clear_bits();
-        self.summary = upkeep::even::<S>(!K::ONES);
+        self.summary = upkeep::uniform::<S>(!K::ONES);
     }
 
     fn assign_range_by_operation<E: Endian, O: RangeOperation>(&mut self, from: u32, to: u32) {
@@ -333,7 +351,7 @@ impl<B: BitsOwned, S: BitsOwned, K: Kind> BitsOwned for Tiered<B, S, K> {
     fn zeros() -> Tiered<B, S, K> {
         Tiered {
             map: B::zeros(),
-            summary: upkeep::even::<S>(!K::ONES),
+            summary: upkeep::uniform::<S>(!K::ONES),
             kind: PhantomData,
         }
     }
@@ -341,7 +359,7 @@ impl<B: BitsOwned, S: BitsOwned, K: Kind> BitsOwned for Tiered<B, S, K> {
     fn ones() -> Tiered<B, S, K> {
         Tiered {
             map: B::ones(),
-            summary: upkeep::even::<S>(K::ONES),
+            summary: upkeep::uniform::<S>(K::ONES),
             kind: PhantomData,
         }
     }

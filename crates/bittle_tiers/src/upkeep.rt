@@ -4,11 +4,10 @@
 
 ghost use Rattle.std.specs.Prelude.{◌≡◌, ◌≢◌, ℕ, ◌*◌, ◌%◌, ◌^◌, ◌<◌, ◌≤◌, ◌==◌, true, IsTrue};
 ghost use Rattle.bittle.specs.PlainSet.{size};
-ghost use Rattle.bittle.specs.Rows.{with_bit};
 ghost use Rattle.bittle.specs.Searches.{PassesOver, TellsGroups};
-ghost use Rattle.bittle.specs.Values.{set_in, ShapeFits};
+ghost use Rattle.bittle.specs.Values.{ShapeFits};
 ghost use Rattle.bittle.specs.Walk.{ones_or_zeros};
-ghost use Rattle.bittle_tiers.specs.Tiers.{even_summary, some_in_word, StopsAtBit};
+ghost use Rattle.bittle_tiers.specs.Tiers.{uniform_summary, some_in_word, StopsAtBit};
 ghost use Rattle.bittle_tiers.specs.Tiers.{Summarizes, SummarizesOutside};
 
 use bittle_bits::bits::Bits;
@@ -23,7 +22,7 @@ use bittle_bits::extension::{
 // Returns whether word `k` of `map` has a bit of kind `K`: a set bit if `K` is `Ones`, else an
 // unset bit.
 #[inline]
-fn has_some<B: ReadWords, K: Kind>(map: &B, k: usize) -> bool
+fn word_has_some<B: ReadWords, K: Kind>(map: &B, k: usize) -> bool
     requires fits { ShapeFits B.Shape map.now }
     requires within { k * B.width < (B.big map.now).capacity }
     ensures { result ≡ some_in_word K.ONES B.width (B.big map.now) k }
@@ -31,24 +30,9 @@ fn has_some<B: ReadWords, K: Kind>(map: &B, k: usize) -> bool
     !is_without_bits::<B::LeafWord>(word_of_kind::<B, K>(map, k))
 }
 
-/// Sets the bit at `index` if `V` is `Ones`, and else clears it. An index at or past the capacity
-/// wraps.
-#[inline]
-pub(crate) fn put_bit<B: BitsMut, E: Endian, V: Kind>(map: &mut B, index: u32)
-    requires { IsTrue B.indexable }
-    ensures { set_in B.Shape E.Endian map.new
-        ≡ with_bit V.ONES (set_in B.Shape E.Endian map.old) index }
-{
-    if V::ONES {
-        map.set_bit_in::<E>(index);
-    } else {
-        map.clear_bit_in::<E>(index);
-    }
-}
-
 // Makes number `k` a member of a summary if `some` is `true`, and else removes it.
 #[inline]
-fn put<S: BitsMut>(summary: &mut S, k: usize, some: bool)
+fn assign_number<S: BitsMut>(summary: &mut S, k: usize, some: bool)
     requires fits { ShapeFits S.Shape summary.old }
     requires within { k < (S.big summary.old).capacity }
     ensures here { (S.big summary.new).has k ≡ some }
@@ -78,14 +62,14 @@ pub(crate) fn refresh<B: ReadWords, S: BitsMut, K: Kind>(
     ensures here { (S.big summary.new).has k ≡ some_in_word K.ONES B.width (B.big map.now) k }
     ensures others { (j : ℕ) → j ≢ k → (S.big summary.new).has j ≡ (S.big summary.old).has j }
 {
-    put::<S>(summary, k, is_known || has_some::<B, K>(map, k));
+    assign_number::<S>(summary, k, is_known || word_has_some::<B, K>(map, k));
 }
 
 /// Returns the full summary if `all` is `true`, and else the empty summary.
 #[inline]
-pub(crate) fn even<S: BitsOwned>(all: bool) -> S
+pub(crate) fn uniform<S: BitsOwned>(all: bool) -> S
     requires { IsTrue S.indexable }
-    ensures { S.big result ≡ even_summary all S.type_capacity }
+    ensures { S.big result ≡ uniform_summary all S.type_capacity }
 {
     if all { S::ones() } else { S::zeros() }
 }
@@ -106,10 +90,11 @@ pub(crate) fn rebuild<B: ReadWords + FixedCapacity, S: BitsMut + FixedCapacity, 
 
 /// Returns whether no word of `map` has a bit of kind `K`. It reads only the summary.
 #[inline]
-pub(crate) fn has_none<B: ReadWords + FixedCapacity, S: ReadWords + FixedCapacity, K: Kind>(
-    map: &B,
-    summary: &S,
-) -> bool
+pub(crate) fn all_words_have_none<
+    B: ReadWords + FixedCapacity,
+    S: ReadWords + FixedCapacity,
+    K: Kind,
+>(map: &B, summary: &S) -> bool
     requires map_fits { IsTrue B.indexable }
     requires fits { IsTrue S.indexable }
     requires reaches { B.type_capacity ≤ S.type_capacity * B.width }

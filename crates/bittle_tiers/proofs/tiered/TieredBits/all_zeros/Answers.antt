@@ -6,5 +6,5 @@ pub returns-then-ONES-clause-in_each_order : goal.returns-then-ONES-clause-in_ea
 returns-then-ONES-clause-in_each_order g c =
     let ones : g.K.Kind.ONES ≡ true = sym c.ONES.ensures ∙ c.if-ONES.true in
     size_in_each_order g.B.Shape.width (g.B.Shape.big c.args.self.now.map) (λ n. n == 0)
-    c.has_none.result g.met.B.ReadWords.width_positive (g.met.B.ReadWords.whole_words _)
-    (rw ones at c.has_none.ensures)
+    c.all_words_have_none.result g.met.B.ReadWords.width_positive (g.met.B.ReadWords.whole_words _)
+    (rw ones at c.all_words_have_none.ensures)

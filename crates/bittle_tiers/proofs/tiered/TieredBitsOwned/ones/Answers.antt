@@ -1,7 +1,6 @@
 use Rattle.std.proofs.Common.{ap, ◌∙◌}
-use Rattle.bittle_tiers.specs.TierLaws.{summary_reaches}
-use Rattle.bittle_tiers.specs.Tiers.{even_summary}
-use Rattle.bittle_tiers.proofs.Summaries.{full_tells}
+use Rattle.bittle_tiers.specs.Tiers.{uniform_summary}
+use Rattle.bittle_tiers.proofs.Summaries.{full_tells, summary_reaches}
 use Rattle.bittle_tiers.proofs.tiered.TieredBitsOwned.ones.Goals as goal
 
 pub invariant_of-result : goal.invariant_of-result
@@ -12,10 +11,10 @@ invariant_of-result g c =
     record {
       fits = c.requires;
       tells = full_tells g.K.Kind.ONES w g.B.Shape.type_capacity g.S.Shape.type_capacity
-          (g.B.Shape.big c.ones.result) (g.S.Shape.big c.even.result)
+          (g.B.Shape.big c.ones.result) (g.S.Shape.big c.uniform.result)
           g.met.B.ReadWords.width_positive g.met.B.FixedCapacity.type_whole_words reach
-          c.ones.ensures.value (c.even.ensures
-          ∙ ap (λ b. even_summary b g.S.Shape.type_capacity) c.ONES.ensures);
+          c.ones.ensures.value (c.uniform.ensures
+          ∙ ap (λ b. uniform_summary b g.S.Shape.type_capacity) c.ONES.ensures);
     }
 
 pub returns-clause-in_each_order : goal.returns-clause-in_each_order

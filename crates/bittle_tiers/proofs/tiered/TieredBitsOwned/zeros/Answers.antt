@@ -1,7 +1,6 @@
 use Rattle.std.proofs.Common.{not, ap, ◌∙◌}
-use Rattle.bittle_tiers.specs.TierLaws.{summary_reaches}
-use Rattle.bittle_tiers.specs.Tiers.{even_summary}
-use Rattle.bittle_tiers.proofs.Summaries.{empty_tells}
+use Rattle.bittle_tiers.specs.Tiers.{uniform_summary}
+use Rattle.bittle_tiers.proofs.Summaries.{empty_tells, summary_reaches}
 use Rattle.bittle_tiers.proofs.tiered.TieredBitsOwned.zeros.Goals as goal
 
 pub invariant_of-result : goal.invariant_of-result
@@ -12,8 +11,8 @@ invariant_of-result g c =
     record {
       fits = c.requires;
       tells = empty_tells g.K.Kind.ONES w g.B.Shape.type_capacity g.S.Shape.type_capacity
-          (g.B.Shape.big c.zeros.result) (g.S.Shape.big c.even.result)
+          (g.B.Shape.big c.zeros.result) (g.S.Shape.big c.uniform.result)
           g.met.B.ReadWords.width_positive g.met.B.FixedCapacity.type_whole_words reach
-          c.zeros.ensures.value (c.even.ensures
-          ∙ ap (λ b. even_summary (not b) g.S.Shape.type_capacity) c.ONES.ensures);
+          c.zeros.ensures.value (c.uniform.ensures
+          ∙ ap (λ b. uniform_summary (not b) g.S.Shape.type_capacity) c.ONES.ensures);
     }

@@ -1,7 +1,7 @@
 use Rattle.std.proofs.Common.{true, false, sym, ap, ◌∙◌, arith}
 use Rattle.std.proofs.Math.Nat.{mod-eq_of_lt}
 use Rattle.bittle_tiers.proofs.Summaries.{bit_here, bit_elsewhere}
-use Rattle.bittle_tiers.proofs.upkeep.put.Goals as goal
+use Rattle.bittle_tiers.proofs.upkeep.assign_number.Goals as goal
 
 pub returns-then-some-clause-here : goal.returns-then-some-clause-here
 returns-then-some-clause-here g c = ap (λ s. s.has c.args.k) c.set_bit_in.ensures.set

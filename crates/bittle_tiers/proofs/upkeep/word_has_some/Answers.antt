@@ -3,7 +3,7 @@ use Rattle.bittle.specs.PlainSet.{size}
 use Rattle.bittle_bits.proofs.OnesOrZeros.{ones_or_zeros-word_of}
 use Rattle.bittle_bits.proofs.Words.{word_ends}
 use Rattle.bittle_tiers.specs.Tiers.{some_in_word}
-use Rattle.bittle_tiers.proofs.upkeep.has_some.Goals as goal
+use Rattle.bittle_tiers.proofs.upkeep.word_has_some.Goals as goal
 
 pub returns : goal.returns
 unfolding some_in_word

@@ -1,6 +1,6 @@
 use Rattle.std.proofs.Common.{◌/◌, ◌∙◌}
 use Rattle.bittle_tiers.proofs.Summaries.{none_exactly, words_counted}
-use Rattle.bittle_tiers.proofs.upkeep.has_none.Goals as goal
+use Rattle.bittle_tiers.proofs.upkeep.all_words_have_none.Goals as goal
 
 pub returns : goal.returns
 returns g c =
