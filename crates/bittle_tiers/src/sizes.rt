@@ -2,14 +2,16 @@
 //! itself. This second one is of the kind [`Ones`], whatever the kind of the set, since a search
 //! looks for the set bits of the first summary.
 
-ghost use Rattle.std.specs.Prelude.{◌≡◌};
+ghost use Rattle.std.specs.Prelude.{◌≡◌, true};
 ghost use Rattle.bittle.specs.BitPatterns.{bit_set};
-ghost use Rattle.bittle.specs.PlainSet.{empty_set};
+ghost use Rattle.bittle.specs.PlainSet.{empty_set, size};
 ghost use Rattle.bittle.specs.Rows.{row_set};
+ghost use Rattle.bittle.specs.Values.{set_mirrored};
 
 use crate::tiered::Tiered;
 use bittle_bits::bits_owned::BitsOwned;
 use bittle_bits::extension::{Kind, Ones};
+use bittle_bits::shape::Shape;
 
 /// A set of 4,096 bits: 64 words, and a summary of one word.
 ///
@@ -44,7 +46,9 @@ impl<K: Kind> From<[u64; 64]> for Tiered4K<K> {
 }
 
 impl<K: Kind> Default for Tiered4K<K> {
-    ghost is_default = { λ t. row_set 64 64 (bit_set 64) t.map ≡ empty_set 4096 };
+    ghost is_default = { λ t. (row_set 64 64 (bit_set 64) t.map ≡ empty_set 4096)
+        × (set_mirrored ⟦<Tiered4K<K> as Shape>⟧ true t ≡ empty_set 4096)
+        × (size (row_set 64 64 (bit_set 64) t.map) ≡ 0) };
 
     fn default() -> Tiered4K<K> {
         Tiered4K::zeros()
@@ -60,7 +64,9 @@ impl<K: Kind> From<[u64; 1024]> for Tiered64K<K> {
 }
 
 impl<K: Kind> Default for Tiered64K<K> {
-    ghost is_default = { λ t. row_set 1024 64 (bit_set 64) t.map ≡ empty_set 65536 };
+    ghost is_default = { λ t. (row_set 1024 64 (bit_set 64) t.map ≡ empty_set 65536)
+        × (set_mirrored ⟦<Tiered64K<K> as Shape>⟧ true t ≡ empty_set 65536)
+        × (size (row_set 1024 64 (bit_set 64) t.map) ≡ 0) };
 
     fn default() -> Tiered64K<K> {
         Tiered64K::zeros()
@@ -76,7 +82,9 @@ impl<K: Kind> From<[u64; 4096]> for Tiered256K<K> {
 }
 
 impl<K: Kind> Default for Tiered256K<K> {
-    ghost is_default = { λ t. row_set 4096 64 (bit_set 64) t.map ≡ empty_set 262144 };
+    ghost is_default = { λ t. (row_set 4096 64 (bit_set 64) t.map ≡ empty_set 262144)
+        × (set_mirrored ⟦<Tiered256K<K> as Shape>⟧ true t ≡ empty_set 262144)
+        × (size (row_set 4096 64 (bit_set 64) t.map) ≡ 0) };
 
     fn default() -> Tiered256K<K> {
         Tiered256K::zeros()
