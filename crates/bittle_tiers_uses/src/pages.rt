@@ -49,6 +49,13 @@ pub fn serve_either(requests: &[Request], answers: &mut [Answer])
     serve_any::<Tiered<Tiered4K<Ones>, u64, Zeros>>(requests, answers);
 }
 
+/// Counts the taken pages of a new map of 4,096 pages. There are none.
+pub fn taken_at_first() -> u32
+    ensures { result ≡ 0 }
+{
+    Tiered4K::<Zeros>::default().count_ones()
+}
+
 /// Counts the taken pages of a map that is given as words.
 pub fn taken(words: [u64; 64]) -> u32
     ensures { result ≡ size (row_set 64 64 (bit_set 64) words) }

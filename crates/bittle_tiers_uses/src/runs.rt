@@ -17,6 +17,16 @@ pub fn run(calls: &[Call], replies: &mut [Reply])
     replay::<Tiered4K<Ones>, BigEndian>(&mut set, calls, replies);
 }
 
+/// Makes `calls` in little-endian order on a set with capacity 4,096 that `default` makes, and
+/// writes the replies. The set begins empty in each order.
+pub fn run_default(calls: &[Call], replies: &mut [Reply])
+    requires { length replies.old ≡ length calls.now }
+    ensures { replies.new ≡ replies_of (empty_set 4096) calls.now }
+{
+    let mut set = Tiered4K::<Zeros>::default();
+    replay::<Tiered4K<Zeros>, LittleEndian>(&mut set, calls, replies);
+}
+
 /// Makes `calls` on a `Set` that begins empty and remembers little-endian order.
 pub fn run_wrapped(calls: &[Call], replies: &mut [Reply])
     requires { length replies.old ≡ length calls.now }
