@@ -1,4 +1,3 @@
-pub mod CallRuns
 pub mod EntityLaws
 pub mod Histories
 pub mod LeastDead

@@ -3,7 +3,8 @@
 //! `serve` states that `serve` answers as this machine does, and leaves the machine's last state.
 //! The laws also speak of `matching`, the set that the call `matching` returns.
 
-ghost use Rattle.bit_entities.specs.CallHistories.{CallsAnswerAsLists};
+ghost use Rattle.bit_histories.specs.Histories.{CallsAnswerAsLists};
+ghost use Rattle.bit_entities.specs.Entities.{answer_to, world_after, event_answers, final_world};
 ghost use Rattle.bit_entities.specs.EntityLaws.{WorldsStayWorlds, DeadHaveNothing, SpawnedAreNew};
 ghost use Rattle.bit_entities.specs.EntityLaws.{SpawnedExactlyIfLeast, FullExactlyIfAllAreAlive};
 ghost use Rattle.bit_entities.specs.EntityLaws.{DoneExactlyIfPossible, RefusedChangesNothing};
@@ -110,5 +111,5 @@ pub fn queries_visit_each_once()
 /// machine does on the list of their events. This follows from what the clauses of each call say of
 /// its answer and of the world. So each law of lists of events holds for such calls too.
 pub fn calls_answer_as_lists()
-    ensures { CallsAnswerAsLists }
+    ensures { CallsAnswerAsLists answer_to world_after event_answers final_world }
 {}

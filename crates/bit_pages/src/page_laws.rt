@@ -3,12 +3,13 @@
 //! contract of `serve` states that `serve` answers as this machine does, and leaves the machine's
 //! last state.
 
+ghost use Rattle.bit_histories.specs.Histories.{CallsAnswerAsLists};
+ghost use Rattle.bit_pages.specs.Pages.{answer_to, state_after, request_answers, final_state};
 ghost use Rattle.bit_pages.specs.PageLaws.{PagesAreFree, FullExactlyIfAllAreTaken};
 ghost use Rattle.bit_pages.specs.PageLaws.{NotFreeExactlyIfNotFree};
 ghost use Rattle.bit_pages.specs.PageLaws.{RunsAreFirst, NoRunExactlyIfNoneIsFree};
 ghost use Rattle.bit_pages.specs.PageLaws.{GivenExactlyIfTaken};
 ghost use Rattle.bit_pages.specs.PageLaws.{PagesComeBackBetween, TakenPagesComeBackFirst};
-ghost use Rattle.bit_pages.specs.CallHistories.{CallsAnswerAsLists};
 ghost use Rattle.bit_pages.specs.PageLaws.{AnswersAreOfTheirStates, PagesAreCounted};
 ghost use Rattle.bit_pages.specs.PageLaws.{PagesAreOutstanding};
 
@@ -83,5 +84,5 @@ pub fn pages_are_outstanding()
 /// clauses of each call say of its answer and of the pages. So each law of lists of requests holds
 /// for such calls too.
 pub fn calls_answer_as_lists()
-    ensures { CallsAnswerAsLists }
+    ensures { CallsAnswerAsLists answer_to state_after request_answers final_state }
 {}

@@ -1,4 +1,3 @@
-pub mod CallRuns
 pub mod Counting
 pub mod Histories
 pub mod QueueLaws

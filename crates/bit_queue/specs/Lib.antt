@@ -1,4 +1,3 @@
-pub mod CallHistories
 pub mod Queue
 pub mod QueueLaws
 pub mod RoundRobin

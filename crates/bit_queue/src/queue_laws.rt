@@ -3,7 +3,8 @@
 //! contract of `serve` states that `serve` answers as this machine does, and leaves the machine's
 //! last state.
 
-ghost use Rattle.bit_queue.specs.CallHistories.{CallsAnswerAsLists};
+ghost use Rattle.bit_histories.specs.Histories.{CallsAnswerAsLists};
+ghost use Rattle.bit_queue.specs.Queue.{answer_to, state_after, event_answers, final_state};
 ghost use Rattle.bit_queue.specs.QueueLaws.{MostUrgentRuns, IdleExactlyIfNoneIsReady};
 ghost use Rattle.bit_queue.specs.QueueLaws.{AnswersAreOfTheirStates, RestingTasksAreWokenFirst};
 ghost use Rattle.bit_queue.specs.QueueLaws.{NoTaskExactlyIfThereIsNone, ReadyAreThoseNotRun};
@@ -59,5 +60,5 @@ pub fn tasks_run_in_time()
 /// their events. This follows from what the clauses of each call say of its answer and of the ready
 /// tasks. So each law of lists of events holds for such calls too.
 pub fn calls_answer_as_lists()
-    ensures { CallsAnswerAsLists }
+    ensures { CallsAnswerAsLists answer_to state_after event_answers final_state }
 {}

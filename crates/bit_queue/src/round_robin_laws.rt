@@ -3,7 +3,9 @@
 //! contract of `serve` states that `serve` answers as this machine does, and leaves the machine's
 //! last state.
 
-ghost use Rattle.bit_queue.specs.CallHistories.{CallsAnswerAsListsInTurn};
+ghost use Rattle.bit_histories.specs.Histories.{CallsAnswerAsLists};
+ghost use Rattle.bit_queue.specs.RoundRobin.{answer_in_turn, round_after};
+ghost use Rattle.bit_queue.specs.RoundRobin.{answers_in_turn, final_round};
 ghost use Rattle.bit_queue.specs.RoundRobinLaws.{NextInTurnRuns, RoundIsIdleExactlyIfNoneIsReady};
 ghost use Rattle.bit_queue.specs.RoundRobinLaws.{AnswersAreOfTheirRounds};
 ghost use Rattle.bit_queue.specs.RoundRobinLaws.{RoundHasNoTaskExactlyIfThereIsNone};
@@ -74,5 +76,5 @@ pub fn tasks_run_within_as_many_steps()
 /// their events. This follows from what the clauses of each call say of its answer and of the
 /// round. So each law of lists of events holds for such calls too.
 pub fn calls_answer_as_lists()
-    ensures { CallsAnswerAsListsInTurn }
+    ensures { CallsAnswerAsLists answer_in_turn round_after answers_in_turn final_round }
 {}

@@ -1,3 +1,2 @@
-pub mod CallRuns
 pub mod RoleLaws
 pub mod Rows

@@ -1,3 +1,2 @@
-pub mod CallHistories
 pub mod RoleLaws
 pub mod Roles

@@ -3,7 +3,8 @@
 //! `serve` states that `serve` answers as this machine does, and leaves the machine's last state.
 //! The laws also speak of `Allows`, which the contract of `allows` uses.
 
-ghost use Rattle.bit_roles.specs.CallHistories.{CallsAnswerAsLists};
+ghost use Rattle.bit_histories.specs.Histories.{CallsAnswerAsLists};
+ghost use Rattle.bit_roles.specs.Roles.{answer_to, roles_after, request_answers, final_roles};
 ghost use Rattle.bit_roles.specs.RoleLaws.{DoneExactlyIfPossible, RefusedChangesNothing};
 ghost use Rattle.bit_roles.specs.RoleLaws.{AnswersAreOfTheirStates, AllowsOwnAndParents};
 ghost use Rattle.bit_roles.specs.RoleLaws.{NumbersStay, NothingIsAllowedAtFirst};
@@ -103,5 +104,5 @@ pub fn no_chain_comes_back()
 /// list of their requests. This follows from what the clauses of each call say of its answer and of
 /// the roles. So each law of lists of requests holds for such calls too.
 pub fn calls_answer_as_lists()
-    ensures { CallsAnswerAsLists }
+    ensures { CallsAnswerAsLists answer_to roles_after request_answers final_roles }
 {}

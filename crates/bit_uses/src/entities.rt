@@ -2,7 +2,7 @@
 
 ghost use Rattle.std.specs.Prelude.{◌≡◌, ◌≢◌, ◌<◌, ◌≤◌, ℕ, length, false, true, [], ◌∷◌, IfSome};
 ghost use Rattle.std.specs.Prelude.{MatchOption, if◌then◌else◌};
-ghost use Rattle.bit_entities.specs.CallHistories.{IsHistory};
+ghost use Rattle.bit_histories.specs.Histories.{IsHistory};
 ghost use Rattle.bit_entities.specs.Entities.{spawned_or_full};
 ghost use Rattle.std.specs.Int.{int_wrapping_add, w32};
 ghost use Rattle.std.specs.Prelude.{Some, ℤ};
@@ -11,7 +11,7 @@ ghost use Rattle.bittle.specs.BitPatterns.{bit_set};
 ghost use Rattle.bittle.specs.Rows.{row_set};
 ghost use Rattle.bittle.specs.Searches.{IsFirstIn};
 ghost use Rattle.bit_entities.specs.Entities.{bare_world, empty_world, event_answers, matching};
-ghost use Rattle.bit_entities.specs.Entities.{world_of};
+ghost use Rattle.bit_entities.specs.Entities.{world_of, answer_to, world_after};
 ghost use Rattle.bittle.specs.PlainSet.{ascending, size};
 ghost use Rattle.bittle.specs.Values.{set_in};
 
@@ -169,7 +169,8 @@ pub fn remove_and_ask<B: BitsOwned, const N: usize>(
 /// that the two calls, with what they return, are a history of calls: each law of lists of events
 /// holds of them.
 pub fn spawn_and_give<B: BitsOwned>(world: &mut World<B, 2>, entity: u32) -> (Option<u32>, bool)
-    ensures { IsHistory (world_of 2 (set_in B.Shape B.Order.Endian) world.old.alive
+    ensures { IsHistory answer_to world_after
+        (world_of 2 (set_in B.Shape B.Order.Endian) world.old.alive
         world.old.components) ((Event.Spawn, spawned_or_full result.0)
         ∷ (Event.Attach entity 0, if result.1 then Answer.Done else Answer.Refused) ∷ [])
         (world_of 2 (set_in B.Shape B.Order.Endian) world.new.alive world.new.components) }
@@ -182,7 +183,8 @@ pub fn spawn_and_give<B: BitsOwned>(world: &mut World<B, 2>, entity: u32) -> (Op
 /// Takes the place from `entity`, and then removes the entity. Returns what the calls return. The
 /// clause says that the two calls are a history of calls, as that of [`spawn_and_give`].
 pub fn take_and_remove<B: BitsOwned>(world: &mut World<B, 2>, entity: u32) -> (bool, bool)
-    ensures { IsHistory (world_of 2 (set_in B.Shape B.Order.Endian) world.old.alive
+    ensures { IsHistory answer_to world_after
+        (world_of 2 (set_in B.Shape B.Order.Endian) world.old.alive
         world.old.components)
         ((Event.Detach entity 0, if result.0 then Answer.Done else Answer.Refused)
         ∷ (Event.Remove entity, if result.1 then Answer.Done else Answer.Refused) ∷ [])

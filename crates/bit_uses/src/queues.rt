@@ -2,7 +2,7 @@
 
 ghost use Rattle.std.specs.Prelude.{◌≡◌, ◌≢◌, ◌<◌, length, IfSome, None, true, ℕ};
 ghost use Rattle.std.specs.Prelude.{if◌then◌else◌, map, [], ◌∷◌, List};
-ghost use Rattle.bit_queue.specs.CallHistories.{IsHistory};
+ghost use Rattle.bit_histories.specs.Histories.{IsHistory};
 ghost use Rattle.bit_queue.specs.Queue.{event_answers, most_urgent, runs_or_idle};
 ghost use Rattle.bit_queue.specs.Queue.{answer_to, state_after};
 ghost use Rattle.bit_queue.specs.QueueLaws.{IsWokenBetween};

@@ -2,8 +2,8 @@
 
 ghost use Rattle.std.specs.Prelude.{◌≡◌, ◌<◌, [], ◌∷◌, if◌then◌else◌, IfSome, true};
 ghost use Rattle.bittle.specs.Values.{set_in};
-ghost use Rattle.bit_roles.specs.CallHistories.{IsHistory};
-ghost use Rattle.bit_roles.specs.Roles.{roles_of};
+ghost use Rattle.bit_histories.specs.Histories.{IsHistory};
+ghost use Rattle.bit_roles.specs.Roles.{roles_of, answer_to, roles_after};
 
 use bit_roles::{Answer, Refused, Request, Roles};
 use bittle::{Bits, BitsOwned};
@@ -206,7 +206,8 @@ pub fn grant_and_inherit<B: BitsOwned, const N: usize>(
     permission: u32,
     parent: u32,
 ) -> (bool, bool)
-    ensures { IsHistory (roles_of N B.type_capacity (set_in B.Shape B.Order.Endian)
+    ensures { IsHistory answer_to roles_after
+        (roles_of N B.type_capacity (set_in B.Shape B.Order.Endian)
         roles.old.granted roles.old.parents)
         ((Request.Grant role permission, if result.0 then Answer.Done else Answer.Refused)
         ∷ (Request.Inherit role parent, if result.1 then Answer.Done else Answer.Refused)

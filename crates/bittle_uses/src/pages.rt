@@ -3,9 +3,10 @@
 
 ghost use Rattle.std.specs.Prelude.{◌≡◌, ◌≢◌, ◌+◌, ◌-◌, ◌<◌, IfSome, IsTrue, MatchOption, true, length};
 ghost use Rattle.std.specs.Prelude.{if◌then◌else◌, map, slice_set, [], ◌∷◌, List};
-ghost use Rattle.bit_pages.specs.CallHistories.{IsHistory};
+ghost use Rattle.bit_histories.specs.Histories.{IsHistory};
 ghost use Rattle.bit_pages.specs.PageLaws.{pages_back, pages_handed_out, total};
-ghost use Rattle.bit_pages.specs.Pages.{is_taken, least_free, page_or_full, run_or_none};
+ghost use Rattle.bit_pages.specs.Pages.{answer_to, state_after, is_taken, least_free};
+ghost use Rattle.bit_pages.specs.Pages.{page_or_full, run_or_none};
 ghost use Rattle.bittle.specs.BitPatterns.{bit_set};
 ghost use Rattle.bittle.specs.Values.{set_in};
 ghost use Rattle.bittle.specs.PlainSet.{PlainSet, empty_set, size};
@@ -238,7 +239,7 @@ pub fn serve_and_count<B: BitsOwned>(
 /// Takes a page and a run of pages. The clause says that the two calls, with what they return, are
 /// a history of calls: they lead from the taken pages before to the taken pages afterwards.
 pub fn take_both<B: BitsOwned>(pages: &mut Pages<B>, length: u32) -> (Option<u32>, Option<u32>)
-    ensures { IsHistory (set_in B.Shape B.Order.Endian pages.old.map)
+    ensures { IsHistory answer_to state_after (set_in B.Shape B.Order.Endian pages.old.map)
         ((Request.Take, page_or_full result.0) ∷ (Request.TakeRun length, run_or_none result.1)
         ∷ []) (set_in B.Shape B.Order.Endian pages.new.map) }
 {
@@ -250,7 +251,7 @@ pub fn take_both<B: BitsOwned>(pages: &mut Pages<B>, length: u32) -> (Option<u32
 /// Takes the page `page`, and returns whether it was free. The clause says that the call, with what
 /// it returns, is a history of one call.
 pub fn take_chosen<B: BitsOwned>(pages: &mut Pages<B>, page: u32) -> bool
-    ensures { IsHistory (set_in B.Shape B.Order.Endian pages.old.map)
+    ensures { IsHistory answer_to state_after (set_in B.Shape B.Order.Endian pages.old.map)
         ((Request.TakeAt page, if result then Answer.Page page else Answer.NotFree) ∷ [])
         (set_in B.Shape B.Order.Endian pages.new.map) }
 {
@@ -265,7 +266,7 @@ pub fn give_both_back<B: BitsOwned>(
     first: u32,
     length: u32,
 ) -> (bool, bool)
-    ensures { IsHistory (set_in B.Shape B.Order.Endian pages.old.map)
+    ensures { IsHistory answer_to state_after (set_in B.Shape B.Order.Endian pages.old.map)
         ((Request.GiveBack page, if result.0 then Answer.Given else Answer.NotTaken)
         ∷ (Request.GiveBackRun first length, if result.1 then Answer.Given else Answer.NotTaken)
         ∷ []) (set_in B.Shape B.Order.Endian pages.new.map) }
@@ -279,7 +280,7 @@ pub fn give_both_back<B: BitsOwned>(
 /// taken after it than before it.
 pub fn calls_are_counted()
     ensures { (before after : PlainSet) (calls : List (Request × Answer))
-        → IsHistory before calls after
+        → IsHistory answer_to state_after before calls after
         → size after + total pages_back (map (λ call. call.0) calls) (map (λ call. call.1) calls)
         ≡ size before + total pages_handed_out (map (λ call. call.0) calls)
         (map (λ call. call.1) calls) }
