@@ -9,7 +9,7 @@ use Rattle.bittle.proofs.CallerSets.{size_at_most}
 use Rattle.bit_queue.specs.Queue.{is_ready, with_task, without_task, runs_or_idle}
 use Rattle.bit_queue.specs.QueueLaws.{IsWokenFirst, IsWokenBetween, IsLeftReady, is_next, RunsIn}
 use Rattle.bit_queue.specs.RoundRobin.{Round, round_at, next_in_turn, past_picked, answer_in_turn, round_after, answers_in_turn, final_round}
-use Rattle.bit_queue.specs.RoundRobinLaws.{comes_before, IsNextInTurn, wakes, ever_ready}
+use Rattle.bit_queue.specs.RoundRobinLaws.{comes_before, IsNextInTurn, turn_after, wakes, ever_ready}
 use Rattle.bit_queue.specs.declared.Answer.TheVariants.{Woken, NoTask, Runs, Idle}
 use Rattle.bit_queue.specs.declared.Event.{Event}
 use Rattle.bit_queue.specs.declared.Event.TheVariants.{Wake, Next}
@@ -142,6 +142,29 @@ pub answered_at : (r : Round) (events : List Event) (i : ℕ) →
     ≡ option_map (answer_in_turn (final_round r (take i events))) (slice_get events i)
 unfolding answers_in_turn final_round
 answered_at = histories.answered_at answer_in_turn round_after
+
+-- the turn after one event follows from the answer to it
+turn_follows : (r : Round) (event : Event) →
+    (round_after r event).turn ≡ turn_after r.turn (answer_in_turn r event)
+turn_follows r (Wake task) = by (nat_lt task r.ready.capacity)
+  where
+    by : (b : Bool) → r.turn ≡ turn_after r.turn (cond b Woken NoTask)
+    by true = refl
+    by false = refl
+turn_follows r Next = by (next_in_turn r)
+  where
+    by : (o : Option ℕ) → (past_picked r o).turn ≡ turn_after r.turn (runs_or_idle o)
+    by None = refl
+    by (Some task) = refl
+
+-- the turn after a list of events follows from the answers
+pub turn_is_past : (r : Round) (events : List Event) →
+    (final_round r events).turn ≡ fold turn_after r.turn (answers_in_turn r events)
+unfolding answers_in_turn final_round
+turn_is_past r [] = refl
+turn_is_past r (event ∷ events) = turn_is_past (round_after r event) events
+    ∙ ap (λ t. fold turn_after t (scan round_after answer_in_turn (round_after r event) events))
+    (turn_follows r event)
 
 pub woken_first : (r : Round) (events : List Event) (task : ℕ) → r.ready.has task ≡ false →
     IsWokenFirst events (answers_in_turn r events) task

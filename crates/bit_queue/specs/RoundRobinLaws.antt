@@ -1,6 +1,6 @@
 -- Laws of the round-robin machine, for all events.
-use Rattle.std.specs.List.{count_by, list_any}
-use Rattle.std.specs.Prelude.{◌≡◌, ℕ, ◌<◌, ◌≤◌, ◌↔◌, Bool, true, false, ◌&&◌, ◌||◌, ◌==◌, nat_le, nat_lt, if◌then◌else◌, Some, List, slice_get, take, option_map}
+use Rattle.std.specs.List.{count_by, fold, list_any}
+use Rattle.std.specs.Prelude.{◌≡◌, ℕ, ◌+◌, ◌<◌, ◌≤◌, ◌↔◌, Bool, true, false, ◌&&◌, ◌||◌, ◌==◌, nat_le, nat_lt, if◌then◌else◌, Some, List, slice_get, take, option_map}
 use Rattle.bittle.specs.PlainSet.{PlainSet, size}
 use Rattle.bittle.specs.Searches.{NoneIn}
 use Rattle.bit_queue.specs.Queue.{is_ready}
@@ -8,7 +8,8 @@ use Rattle.bit_queue.specs.RoundRobin.{Round, answer_in_turn, answers_in_turn, f
 use Rattle.bit_queue.specs.QueueLaws.{IsWokenFirst, IsWokenBetween, IsLeftReady, is_next, RunsIn}
 use Rattle.bit_queue.specs.declared.Event.{Event}
 use Rattle.bit_queue.specs.declared.Event.TheVariants.{Wake, Next}
-use Rattle.bit_queue.specs.declared.Answer.TheVariants.{NoTask, Runs, Idle}
+use Rattle.bit_queue.specs.declared.Answer.{Answer}
+use Rattle.bit_queue.specs.declared.Answer.TheVariants.{Woken, NoTask, Runs, Idle}
 
 -- whether the task `one` comes before the task `other` in turn: the tasks from the turn on come
 -- first, in increasing order, and then those before the turn, in increasing order too
@@ -50,6 +51,19 @@ AnswersAreOfTheirRounds =
     (r : Round) (events : List Event) (i : ℕ)
     → slice_get (answers_in_turn r events) i
     ≡ option_map (answer_in_turn (final_round r (take i events))) (slice_get events i)
+
+-- the turn after an answer: one more than the task that runs, or else as before
+abbrev pub turn_after : ℕ → Answer → ℕ
+turn_after turn (Runs task) = task + 1
+turn_after turn Woken = turn
+turn_after turn NoTask = turn
+turn_after turn Idle = turn
+
+-- the turn after a list of events is one more than the task that ran last, or as before if none ran
+abbrev pub TurnIsPastTheLastRun : Type 0
+TurnIsPastTheLastRun =
+    (r : Round) (events : List Event)
+    → (final_round r events).turn ≡ fold turn_after r.turn (answers_in_turn r events)
 
 -- a task that is not ready runs only after it was woken
 abbrev pub RestingTasksAreWokenFirstInTurn : Type 0

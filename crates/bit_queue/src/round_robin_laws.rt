@@ -7,7 +7,7 @@ ghost use Rattle.bit_histories.specs.Histories.{CallsAnswerAsLists};
 ghost use Rattle.bit_queue.specs.RoundRobin.{answer_in_turn, round_after};
 ghost use Rattle.bit_queue.specs.RoundRobin.{answers_in_turn, final_round};
 ghost use Rattle.bit_queue.specs.RoundRobinLaws.{NextInTurnRuns, RoundIsIdleExactlyIfNoneIsReady};
-ghost use Rattle.bit_queue.specs.RoundRobinLaws.{AnswersAreOfTheirRounds};
+ghost use Rattle.bit_queue.specs.RoundRobinLaws.{AnswersAreOfTheirRounds, TurnIsPastTheLastRun};
 ghost use Rattle.bit_queue.specs.RoundRobinLaws.{RoundHasNoTaskExactlyIfThereIsNone};
 ghost use Rattle.bit_queue.specs.RoundRobinLaws.{ReadyAreThoseNotRunInTurn};
 ghost use Rattle.bit_queue.specs.RoundRobinLaws.{NoTaskRunsTwiceBeforeAReadyTask};
@@ -37,6 +37,12 @@ pub fn no_task_exactly_if_there_is_none()
 /// So what holds of one answer in any round holds of each answer of the list.
 pub fn answers_are_of_their_rounds()
     ensures { AnswersAreOfTheirRounds }
+{}
+
+/// States that the turn after a list of events is one more than the number of the task that ran
+/// last, or as before if none ran. So the search for the next task begins after that task.
+pub fn turn_is_past_the_last_run()
+    ensures { TurnIsPastTheLastRun }
 {}
 
 /// States that a task which is not ready runs only after it was woken.
