@@ -68,8 +68,8 @@ impl<B: BitsOwned> RoundRobin<B> {
         self.ready.count_ones()
     }
 
-    /// Returns whether no task is ready; with capacity 0 this is always so. The call reads words,
-    /// at most eight at a time, until one of them has the bit of a ready task.
+    /// Returns whether no task is ready; with capacity 0 this is always so. It costs what
+    /// `all_zeros` of [`ready`](RoundRobin::ready) costs.
     pub fn is_empty(&self) -> bool
         ensures { IsTrue result
             ↔ NoneIn (set_in B.Shape B.Order.Endian self.now.ready) 0 B.type_capacity }

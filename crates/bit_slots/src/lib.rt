@@ -273,8 +273,8 @@ impl<'a, V: Drop, B: BitsOwned> Slots<'a, V, B> {
         self.live.count_ones()
     }
 
-    /// Returns whether no slot holds a value. The call reads the words of [`live`](Slots::live) up
-    /// to the first that is not 0.
+    /// Returns whether no slot holds a value. It costs what `all_zeros` of [`live`](Slots::live)
+    /// costs.
     pub fn is_empty(&self) -> bool
         ensures count { result ≡ (live_count B.type_capacity self.now.row.slots.now == 0) }
         ensures none { IsTrue result → (key : Key)

@@ -31,6 +31,8 @@ mod probe;
 #[cfg(test)]
 mod probe_rows;
 #[cfg(test)]
+mod queues_and_worlds;
+#[cfg(test)]
 mod replays;
 #[cfg(test)]
 mod rows;
