@@ -67,6 +67,31 @@ fn change_one<B: BitsMut>(
     };
 }
 
+// Changes one bit of the row and its flag, by the call that `kind` picks. An index past the row
+// changes nothing. Checks what the call returns, and first what the row says of the index.
+fn change_checked<B: BitsMut>(
+    rt: &impl Abort,
+    kind: u32,
+    index: u32,
+    row: &mut B,
+    flags: &mut [bool; 24],
+)
+    requires { IsTrue B.indexable }
+{
+    let before = flags.get(index as usize).copied();
+    same!(*rt; (row.contains_index(index), row.get_bit(index)), (before == Some(true), before));
+    let was_set = match kind {
+        0 => row.try_insert(index).map(|unset| !unset),
+        1 => row.try_remove(index),
+        2 => row.try_set_bit(index).then_some(before == Some(true)),
+        _ => row.try_clear_bit(index).then_some(before == Some(true)),
+    };
+    same!(*rt; was_set, before);
+    if let Some(flag) = flags.get_mut(index as usize) {
+        *flag = kind % 2 == 0;
+    }
+}
+
 // Changes a range of the row and of the flags, by the call that `kind` picks.
 fn change_range<B: BitsMut>(kind: u32, from: u32, to: u32, row: &mut B, flags: &mut [bool; 24])
     requires fits { ShapeFits B.Shape row.old }
@@ -124,6 +149,8 @@ fn drawn_changes_agree_with_plain_loops(rt: HostRuntime) {
     for _ in 0..3000 {
         let (kind, index) = (draw(&mut state) % 4, draw(&mut state) % 50);
         change_one(&rt, kind, index, &mut row, &mut flags);
+        let (kind, index) = (draw(&mut state) % 4, draw(&mut state) % 30);
+        change_checked(&rt, kind, index, &mut row, &mut flags);
         let (one, other) = (draw(&mut state) % 25, draw(&mut state) % 25);
         change_range(kind, one.min(other), one.max(other), &mut row, &mut flags);
         take_one(&rt, kind % 3, &mut row, &mut flags);
