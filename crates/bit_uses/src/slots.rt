@@ -2,12 +2,12 @@
 //! counts.
 
 ghost use Rattle.std.specs.Prelude.{◌≡◌, ◌≢◌, ◌+◌, ◌≤◌, ℕ, false, length, map, slice_get, sum};
-ghost use Rattle.std.specs.Prelude.{true, IfOk, IfSome, Some};
+ghost use Rattle.std.specs.Prelude.{true, is_some, option_map, IfOk, IfSome, None, Some};
 ghost use Rattle.bit_slots.specs.Entries.{entries};
 ghost use Rattle.bit_slots.specs.Keys.{found, stages};
 ghost use Rattle.bit_slots.specs.SlotSets.{live_count};
 
-use bit_slots::{Key, Slots};
+use bit_slots::{Key, Slot, Slots};
 use bittle::{Bits, BitsOwned};
 
 /// Returns a key that finds the value `wanted`, or `None` if no key finds it.
@@ -123,6 +123,15 @@ pub fn insert_and_remove<V: Drop, B: BitsOwned>(slots: &mut Slots<V, B>, value: 
     }
 }
 
+/// Inserts a value into a table of one new slot, and returns whether it got a key. The result is
+/// always `true`.
+pub fn insert_into_new(value: u64) -> bool
+    ensures { result ≡ true }
+{
+    let mut row = [Slot::new()];
+    Slots::<u64, u64>::over(&mut row).insert(value).is_ok()
+}
+
 /// Returns how many slots hold no value. The difference is never negative.
 pub fn slots_without_value<V: Drop, B: BitsOwned>(slots: &Slots<V, B>) -> u32
     ensures { result + live_count B.type_capacity slots.now.row.slots.now
@@ -141,7 +150,10 @@ pub struct Counted<'a, B: BitsOwned> {
 
 impl<'a, B: BitsOwned> Counted<'a, B> {
     /// Inserts a value and returns its key, or `None` if no slot is free.
-    pub fn insert(&mut self, value: u64) -> Option<Key> {
+    pub fn insert(&mut self, value: u64) -> Option<Key>
+        ensures { IfSome result (λ key.
+            found (stages self.new.slots.row.slots.now key.slot key.generation) ≡ Some value) }
+    {
         let Ok(key) = self.slots.insert(value) else {
             return None;
         };
@@ -152,14 +164,21 @@ impl<'a, B: BitsOwned> Counted<'a, B> {
 
     /// Takes out the value of a key. Returns the value and how often its slot was used, or `None`
     /// if the key finds no value.
-    pub fn remove(&mut self, key: Key) -> Option<(u64, u32)> {
+    pub fn remove(&mut self, key: Key) -> Option<(u64, u32)>
+        ensures value { option_map (λ it. it.0) result
+            ≡ found (stages self.old.slots.row.slots.now key.slot key.generation) }
+        ensures gone { found (stages self.new.slots.row.slots.now key.slot key.generation) ≡ None }
+    {
         let value = self.slots.remove(key)?;
         Some((value, self.uses[key.slot() as usize]))
     }
 
     /// Replaces the value of a key, and returns how often its slot was used, or `None` if the key
     /// finds no value.
-    pub fn replace(&mut self, key: Key, value: u64) -> Option<u32> {
+    pub fn replace(&mut self, key: Key, value: u64) -> Option<u32>
+        ensures { found (stages self.new.slots.row.slots.now key.slot key.generation)
+            ≡ option_map (λ _. value) result }
+    {
         match self.slots.replace(key, value) {
             Ok(_) => Some(self.uses[key.slot() as usize]),
             Err(_) => None,
@@ -168,7 +187,10 @@ impl<'a, B: BitsOwned> Counted<'a, B> {
 
     /// Adds one to the value of a key, unless the value is `u64::MAX`. Returns how often the key's
     /// slot was used, or `None` if the key finds no value.
-    pub fn step(&mut self, key: Key) -> Option<u32> {
+    pub fn step(&mut self, key: Key) -> Option<u32>
+        ensures { is_some result
+            ≡ is_some (found (stages self.new.slots.row.slots.now key.slot key.generation)) }
+    {
         if self
             .slots
             .update(key, |value| *value = value.saturating_add(1))
@@ -181,7 +203,9 @@ impl<'a, B: BitsOwned> Counted<'a, B> {
 
     /// Returns the key of the value in a slot, and how often the slot was used, or `None` if the
     /// slot holds no value.
-    pub fn at(&self, slot: u32) -> Option<(Key, u32)> {
+    pub fn at(&self, slot: u32) -> Option<(Key, u32)>
+        ensures { IfSome result (λ it. it.0.slot ≡ slot) }
+    {
         let key = self.slots.key_at(slot)?;
         Some((key, self.uses[slot as usize]))
     }
