@@ -1,18 +1,51 @@
--- The calls of a history answer as the machine does on the list of their requests.
-use Rattle.std.proofs.Common.{◌≡◌, List, [], ◌∷◌, refl, ap, ◌∙◌}
+-- Histories and lists of requests, and histories one after the other.
+use Rattle.std.proofs.Common.{◌≡◌, List, [], ◌∷◌, ◌++◌, refl, ap, ◌∙◌, subst}
 use Rattle.std.specs.List.{fold, scan}
 use Rattle.std.specs.Prelude.{map}
 use Rattle.bit_histories.specs.Histories.{IsHistory, CallsAnswerAsLists}
 
 module _ {S Q A : Type 0} (answer_to : S → Q → A) (state_after : S → Q → S) where
-  pub history_is_list : CallsAnswerAsLists answer_to state_after (scan state_after answer_to)
-      (fold state_after)
-  history_is_list before after [] is = (refl, is)
-  history_is_list before after (call ∷ calls) is =
-      let later = history_is_list is.0 after calls is.2 in
+  -- the calls of a history answer as the machine does on the list of their requests
+  answers_as_list : (before after : S) (calls : List (Q × A)) →
+      IsHistory answer_to state_after before calls after →
+      (map (λ call. call.1) calls ≡ scan state_after answer_to before (map (λ call. call.0) calls))
+      × (after ≡ fold state_after before (map (λ call. call.0) calls))
+  answers_as_list before after [] is = (refl, is)
+  answers_as_list before after (call ∷ calls) is =
+      let later = answers_as_list is.0 after calls is.2 in
       let requests : List Q = map (λ call. call.0) calls in (
         ap (λ a. a ∷ map (λ call. call.1) calls) is.1.answered
             ∙ ap (λ rest. answer_to before call.0 ∷ rest) (later.0
             ∙ ap (λ s. scan state_after answer_to s requests) is.1.left),
         later.1 ∙ ap (λ s. fold state_after s requests) is.1.left,
       )
+
+  -- calls that answer as the machine does on the list of their requests are a history
+  is_history : (before after : S) (calls : List (Q × A)) →
+      map (λ call. call.1) calls ≡ scan state_after answer_to before (map (λ call. call.0) calls) →
+      after ≡ fold state_after before (map (λ call. call.0) calls) →
+      IsHistory answer_to state_after before calls after
+  is_history before after [] answers last = last
+  is_history before after (call ∷ calls) answers last =
+      let next = state_after before call.0 in
+      let first : call.1 ≡ answer_to before call.0 = cc in
+      let rest : map (λ call. call.1) calls
+          ≡ scan state_after answer_to next (map (λ call. call.0) calls) = cc in
+      (next, record { answered = first; left = refl }, is_history next after calls rest last)
+
+  pub history_is_list : CallsAnswerAsLists answer_to state_after (scan state_after answer_to)
+      (fold state_after)
+  history_is_list before after calls = (
+    answers_as_list before after calls,
+    λ is. is_history before after calls is.0 is.1,
+  )
+
+  -- two histories, the second from where the first ends, are one history
+  pub histories_join : (before between after : S) (first second : List (Q × A)) →
+      IsHistory answer_to state_after before first between →
+      IsHistory answer_to state_after between second after →
+      IsHistory answer_to state_after before (first ++ second) after
+  histories_join before between after [] second is later =
+      subst (λ s. IsHistory answer_to state_after s second after) is later
+  histories_join before between after (call ∷ first) second is later =
+      (is.0, is.1, histories_join is.0 between after first second is.2 later)

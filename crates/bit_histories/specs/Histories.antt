@@ -1,6 +1,5 @@
 -- Histories of calls on a machine, which answers each request in each state, and goes to another.
-use Rattle.std.specs.List.{fold, scan}
-use Rattle.std.specs.Prelude.{◌≡◌, List, [], ◌∷◌, map}
+use Rattle.std.specs.Prelude.{◌≡◌, ◌↔◌, List, [], ◌∷◌, map}
 
 -- the machine with these answers to requests, and these states after them
 module _ {S Q A : Type 0} (answer_to : S → Q → A) (state_after : S → Q → S) where
@@ -16,10 +15,10 @@ module _ {S Q A : Type 0} (answer_to : S → Q → A) (state_after : S → Q →
   IsHistory before (call ∷ calls) after =
       (between : S) × IsCall before call.0 call.1 between × IsHistory between calls after
 
-  -- the calls of a history give the machine's answers to the list of their requests, and leave the
-  -- machine's last state: those that `answers` and `last_state` tell
+  -- calls are a history exactly if they give the machine's answers to the list of their requests,
+  -- and leave the machine's last state: those that `answers` and `last_state` tell
   abbrev pub CallsAnswerAsLists : (S → List Q → List A) → (S → List Q → S) → Type 0
   CallsAnswerAsLists answers last_state =
       (before after : S) (calls : List (Q × A)) → IsHistory before calls after
-      → (map (λ call. call.1) calls ≡ answers before (map (λ call. call.0) calls))
-      × (after ≡ last_state before (map (λ call. call.0) calls))
+      ↔ ((map (λ call. call.1) calls ≡ answers before (map (λ call. call.0) calls))
+      × (after ≡ last_state before (map (λ call. call.0) calls)))
