@@ -99,6 +99,24 @@ no_task_is_past s Next = (
   λ w. absurd (let same = w.1 in cc),
 )
 
+-- NoTask and Idle change nothing
+pub changes_nothing : (s : PlainSet) (event : Event) →
+    (answer_to s event ≡ NoTask) ⊎ (answer_to s event ≡ Idle) → state_after s event ≡ s
+changes_nothing s (Wake task) = by (nat_lt task s.capacity)
+  where
+    by : (b : Bool) → (cond b Woken NoTask ≡ NoTask) ⊎ (cond b Woken NoTask ≡ Idle) →
+        cond b (with_task s task) s ≡ s
+    by true (inl e) = absurd (cc)
+    by true (inr e) = absurd (cc)
+    by false e = refl
+changes_nothing s Next = by (most_urgent s)
+  where
+    by : (o : Option ℕ) → (runs_or_idle o ≡ NoTask) ⊎ (runs_or_idle o ≡ Idle) →
+        without_picked s o ≡ s
+    by None e = refl
+    by (Some p) (inl e) = absurd (cc)
+    by (Some p) (inr e) = absurd (cc)
+
 -- a task that was taken out is not ready
 pub taken_out : (s : PlainSet) (task : ℕ) → (without_task s task).has task ≡ false
 taken_out s task = ap (λ b. not b && s.has task) (eq-eqb task task refl)

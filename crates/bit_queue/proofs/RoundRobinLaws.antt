@@ -15,7 +15,7 @@ use Rattle.bit_queue.specs.declared.Event.{Event}
 use Rattle.bit_queue.specs.declared.Event.TheVariants.{Wake, Next}
 use Rattle.bittle.proofs.Replies.{run_keeps}
 use Rattle.bit_queue.proofs.Counting.{counts_less, counts_item}
-use Rattle.bit_queue.proofs.QueueLaws.{woken_is_no_run, woken_is_not_idle, woken_is_no_task, run_is_no_no_task, run_is_picked, taken_out, others_stay, wakes_alone, wakes_keep, still_ready, woken_ready}
+use Rattle.bit_queue.proofs.QueueLaws.{changes_nothing, woken_is_no_run, woken_is_not_idle, woken_is_no_task, run_is_no_no_task, run_is_picked, taken_out, others_stay, wakes_alone, wakes_keep, still_ready, woken_ready}
 use Rattle.bit_queue.proofs.Turns.{Comes, comes_is, comes_from, comes_not, comes_either, next_in_turn-is}
 use Rattle.bit_queue.proofs.Urgency.{ready-member}
 use Rattle.bit_queue.proofs.Histories as histories
@@ -93,6 +93,17 @@ no_task_is_past r Next = (
   λ e. absurd (run_is_no_no_task (next_in_turn r) e),
   λ w. absurd (let same = w.1 in cc),
 )
+
+-- NoTask and Idle change neither the ready tasks nor the turn
+pub changes_no_round : (r : Round) (event : Event) →
+    (answer_in_turn r event ≡ NoTask) ⊎ (answer_in_turn r event ≡ Idle) → round_after r event ≡ r
+changes_no_round r (Wake task) e = ap (λ s. round_at s r.turn) (changes_nothing r.ready (Wake task) e)
+changes_no_round r Next e = by (next_in_turn r) e
+  where
+    by : (o : Option ℕ) → (runs_or_idle o ≡ NoTask) ⊎ (runs_or_idle o ≡ Idle) → past_picked r o ≡ r
+    by None e = refl
+    by (Some p) (inl e) = absurd (cc)
+    by (Some p) (inr e) = absurd (cc)
 
 -- the facts about the machine that the lemmas of Histories.antt require
 runs_ready : (r : Round) (event : Event) (task : ℕ) → answer_in_turn r event ≡ Runs task →

@@ -89,6 +89,19 @@ none_ready s end none all e = (
   λ empty. e ∙ eq-eqb (size s) 0 (size_zero s (subst (λ n. NoneIn s 0 n) all empty)),
 )
 
+-- a ready task was found and some task is ready, or nothing was found and none is ready
+pub found_counts : (s : PlainSet) (end : ℕ) (found : Option ℕ) (P : ℕ → Type 0) →
+    end ≡ s.capacity → ((k : ℕ) → P k → (k < s.capacity) × (s.has k ≡ true)) →
+    MatchOption found (NoneIn s 0 end) P → MatchOption found (size s ≡ 0) (λ _. 0 < size s)
+found_counts s end None P all ready none = size_zero s (subst (λ n. NoneIn s 0 n) all none)
+found_counts s end (Some task) P all ready found = elim (cases_lt 0 (size s)) [
+  | inl some ↦ some
+  | inr g ↦
+      let is = ready task found in
+      let none = size_none s (omega (arith, g)) task (omega arith) is.0 in
+      absurd (true≢false (sym is.1 ∙ none))
+]
+
 -- a test of the set shows whether a task is ready
 pub is_ready-within : (s : PlainSet) (task : ℕ) → task < s.capacity →
     is_ready s task ≡ contains s task

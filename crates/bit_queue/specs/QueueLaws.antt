@@ -3,7 +3,7 @@ use Rattle.std.specs.List.{count_by}
 use Rattle.std.specs.Prelude.{◌≡◌, ◌≢◌, ℕ, ◌+◌, ◌<◌, ◌≤◌, ◌↔◌, ◌⊎◌, Bool, true, false, nat_lt, Some, List, slice_get, take, option_map}
 use Rattle.bittle.specs.PlainSet.{PlainSet, members_below}
 use Rattle.bittle.specs.Searches.{NoneIn}
-use Rattle.bit_queue.specs.Queue.{is_ready, answer_to, event_answers, final_state}
+use Rattle.bit_queue.specs.Queue.{is_ready, answer_to, state_after, event_answers, final_state}
 use Rattle.bit_queue.specs.declared.Event.{Event}
 use Rattle.bit_queue.specs.declared.Event.TheVariants.{Wake, Next}
 use Rattle.bit_queue.specs.declared.Answer.{Answer}
@@ -32,6 +32,13 @@ abbrev pub NoTaskExactlyIfThereIsNone : Type 0
 NoTaskExactlyIfThereIsNone =
     (s : PlainSet) (event : Event)
     → (answer_to s event ≡ NoTask) ↔ ((task : ℕ) × (event ≡ Wake task) × (s.capacity ≤ task))
+
+-- an event that is answered by NoTask or Idle changes nothing
+abbrev pub NoTaskAndIdleChangeNothing : Type 0
+NoTaskAndIdleChangeNothing =
+    (s : PlainSet) (event : Event)
+    → (answer_to s event ≡ NoTask) ⊎ (answer_to s event ≡ Idle)
+    → state_after s event ≡ s
 
 -- there is an answer i exactly if there is an event i: the answer to this event in the state that
 -- the events before it leave

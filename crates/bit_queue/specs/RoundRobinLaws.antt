@@ -1,10 +1,10 @@
 -- Laws of the round-robin machine, for all events.
 use Rattle.std.specs.List.{count_by, fold, list_any}
-use Rattle.std.specs.Prelude.{◌≡◌, ℕ, ◌+◌, ◌<◌, ◌≤◌, ◌↔◌, Bool, true, false, ◌&&◌, ◌||◌, ◌==◌, nat_le, nat_lt, if◌then◌else◌, Some, List, slice_get, take, option_map}
+use Rattle.std.specs.Prelude.{◌≡◌, ℕ, ◌+◌, ◌<◌, ◌≤◌, ◌↔◌, ◌⊎◌, Bool, true, false, ◌&&◌, ◌||◌, ◌==◌, nat_le, nat_lt, if◌then◌else◌, Some, List, slice_get, take, option_map}
 use Rattle.bittle.specs.PlainSet.{PlainSet, size}
 use Rattle.bittle.specs.Searches.{NoneIn}
 use Rattle.bit_queue.specs.Queue.{is_ready}
-use Rattle.bit_queue.specs.RoundRobin.{Round, answer_in_turn, answers_in_turn, final_round}
+use Rattle.bit_queue.specs.RoundRobin.{Round, answer_in_turn, round_after, answers_in_turn, final_round}
 use Rattle.bit_queue.specs.QueueLaws.{IsWokenFirst, IsWokenBetween, IsLeftReady, is_next, RunsIn}
 use Rattle.bit_queue.specs.declared.Event.{Event}
 use Rattle.bit_queue.specs.declared.Event.TheVariants.{Wake, Next}
@@ -43,6 +43,13 @@ RoundHasNoTaskExactlyIfThereIsNone =
     (r : Round) (event : Event)
     → (answer_in_turn r event ≡ NoTask)
     ↔ ((task : ℕ) × (event ≡ Wake task) × (r.ready.capacity ≤ task))
+
+-- an event that is answered by NoTask or Idle changes neither the ready tasks nor the turn
+abbrev pub NoTaskAndIdleChangeNoRound : Type 0
+NoTaskAndIdleChangeNoRound =
+    (r : Round) (event : Event)
+    → (answer_in_turn r event ≡ NoTask) ⊎ (answer_in_turn r event ≡ Idle)
+    → round_after r event ≡ r
 
 -- there is an answer i exactly if there is an event i: the answer to this event in the round that
 -- the events before it leave

@@ -1,6 +1,6 @@
 //! The queue in which the most urgent ready task runs.
 
-ghost use Rattle.std.specs.Prelude.{◌≡◌, ◌<◌, ◌↔◌, length, true, false, IfSome, IsOk};
+ghost use Rattle.std.specs.Prelude.{◌≡◌, ◌==◌, ◌<◌, ◌≤◌, ◌↔◌, length, true, false, IfSome, IsOk};
 ghost use Rattle.std.specs.Prelude.{IsTrue, MatchOption, Some, ℕ, ◌≢◌};
 ghost use Rattle.std.specs.Prelude.{◌+◌, ◌&&◌, not, cond, is_ok, is_some};
 ghost use Rattle.bittle.specs.PlainSet.{empty_set, size};
@@ -55,7 +55,8 @@ impl<B: BitsOwned> PriorityQueue<B> {
 
     /// Returns how many tasks are ready. The call goes word by word, not bit by bit.
     pub fn len(&self) -> u32
-        ensures { result ≡ size (set_in B.Shape B.Order.Endian self.now.ready) }
+        ensures count { result ≡ size (set_in B.Shape B.Order.Endian self.now.ready) }
+        ensures at_most { result ≤ B.type_capacity }
     {
         self.ready.count_ones()
     }
@@ -63,8 +64,9 @@ impl<B: BitsOwned> PriorityQueue<B> {
     /// Returns whether no task is ready; with capacity 0 this is always so. It costs what
     /// `all_zeros` of [`ready`](PriorityQueue::ready) costs.
     pub fn is_empty(&self) -> bool
-        ensures { IsTrue result
+        ensures none { IsTrue result
             ↔ NoneIn (set_in B.Shape B.Order.Endian self.now.ready) 0 B.type_capacity }
+        ensures count { result ≡ (size (set_in B.Shape B.Order.Endian self.now.ready) == 0) }
     {
         self.ready.all_zeros()
     }
@@ -114,6 +116,8 @@ impl<B: BitsOwned> PriorityQueue<B> {
         ensures urgent { let tasks = set_in B.Shape B.Order.Endian self.now.ready in
             MatchOption result (NoneIn tasks 0 B.type_capacity) (IsMostUrgent tasks) }
         ensures below { IfSome result (λ task. task < B.type_capacity) }
+        ensures some { let before = set_in B.Shape B.Order.Endian self.now.ready in
+            MatchOption result (size before ≡ 0) (λ _. 0 < size before) }
     {
         self.ready.first_one_in::<B::Order>(0, B::bits())
     }
@@ -126,6 +130,8 @@ impl<B: BitsOwned> PriorityQueue<B> {
         ensures urgent { let before = set_in B.Shape B.Order.Endian self.old.ready in
             MatchOption result (NoneIn before 0 B.type_capacity) (IsMostUrgent before) }
         ensures below { IfSome result (λ task. task < B.type_capacity) }
+        ensures some { let before = set_in B.Shape B.Order.Endian self.old.ready in
+            MatchOption result (size before ≡ 0) (λ _. 0 < size before) }
         ensures was_ready { IfSome result
             (λ task. is_ready (set_in B.Shape B.Order.Endian self.old.ready) task ≡ true) }
         ensures rests { IfSome result

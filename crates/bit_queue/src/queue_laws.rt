@@ -9,6 +9,7 @@ ghost use Rattle.bit_queue.specs.QueueLaws.{MostUrgentRuns, IdleExactlyIfNoneIsR
 ghost use Rattle.bit_queue.specs.QueueLaws.{AnswersAreOfTheirStates, RestingTasksAreWokenFirst};
 ghost use Rattle.bit_queue.specs.QueueLaws.{NoTaskExactlyIfThereIsNone, ReadyAreThoseNotRun};
 ghost use Rattle.bit_queue.specs.QueueLaws.{TasksAreWokenBetween, TasksRunInTime};
+ghost use Rattle.bit_queue.specs.QueueLaws.{NoTaskAndIdleChangeNothing};
 
 /// States that a task runs exactly if the event is a step, the task is ready, and no ready task is
 /// more urgent.
@@ -25,6 +26,11 @@ pub fn idle_exactly_if_none_is_ready()
 /// tasks.
 pub fn no_task_exactly_if_there_is_none()
     ensures { NoTaskExactlyIfThereIsNone }
+{}
+
+/// States that an event which is answered by `NoTask` or `Idle` changes nothing.
+pub fn no_task_and_idle_change_nothing()
+    ensures { NoTaskAndIdleChangeNothing }
 {}
 
 /// States that in every list there is an answer `i` exactly if there is an event `i`. It is the

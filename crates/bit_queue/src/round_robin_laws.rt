@@ -8,6 +8,7 @@ ghost use Rattle.bit_queue.specs.RoundRobin.{answer_in_turn, round_after};
 ghost use Rattle.bit_queue.specs.RoundRobin.{answers_in_turn, final_round};
 ghost use Rattle.bit_queue.specs.RoundRobinLaws.{NextInTurnRuns, RoundIsIdleExactlyIfNoneIsReady};
 ghost use Rattle.bit_queue.specs.RoundRobinLaws.{AnswersAreOfTheirRounds, TurnIsPastTheLastRun};
+ghost use Rattle.bit_queue.specs.RoundRobinLaws.{NoTaskAndIdleChangeNoRound};
 ghost use Rattle.bit_queue.specs.RoundRobinLaws.{RoundHasNoTaskExactlyIfThereIsNone};
 ghost use Rattle.bit_queue.specs.RoundRobinLaws.{ReadyAreThoseNotRunInTurn};
 ghost use Rattle.bit_queue.specs.RoundRobinLaws.{NoTaskRunsTwiceBeforeAReadyTask};
@@ -30,6 +31,12 @@ pub fn idle_exactly_if_none_is_ready()
 /// tasks.
 pub fn no_task_exactly_if_there_is_none()
     ensures { RoundHasNoTaskExactlyIfThereIsNone }
+{}
+
+/// States that an event which is answered by `NoTask` or `Idle` changes neither the ready tasks nor
+/// the turn.
+pub fn no_task_and_idle_change_nothing()
+    ensures { NoTaskAndIdleChangeNoRound }
 {}
 
 /// States that in every list there is an answer `i` exactly if there is an event `i`. It is the

@@ -215,6 +215,24 @@ pub fn wake_and_run_in_turn<B: BitsOwned>(
     (woken, run)
 }
 
+/// Makes a step of the queue. Returns whether this agrees with `len`: a task runs exactly if some
+/// task is ready. The result is always `true`.
+pub fn runs_if_some<B: BitsOwned>(queue: &mut PriorityQueue<B>) -> bool
+    ensures { result ≡ true }
+{
+    let some = queue.len() > 0;
+    queue.next().is_some() == some
+}
+
+/// Makes a step of the queue. Returns whether this agrees with `is_empty`: no task runs exactly if
+/// no task is ready. The result is always `true`.
+pub fn idles_if_empty<B: BitsOwned>(turns: &mut RoundRobin<B>) -> bool
+    ensures { result ≡ true }
+{
+    let none = turns.is_empty();
+    turns.next().is_none() == none
+}
+
 /// States that in any sequence of calls, a task that runs again was woken since it last ran.
 pub fn tasks_are_woken_between_calls()
     ensures { (before after : PlainSet) (calls : List (Event × Answer)) (task : ℕ)

@@ -1,4 +1,9 @@
 use Rattle.std.proofs.Common.{Some, sym, ◌∙◌, arith}
+use Rattle.bittle.specs.PlainSet.{PlainSet}
+use Rattle.bittle.specs.Values.{set_in}
+use Rattle.bit_queue.specs.RoundRobin.{round_at}
+use Rattle.bit_queue.specs.RoundRobinLaws.{IsNextInTurn}
+use Rattle.bit_queue.proofs.Urgency.{found_counts}
 use Rattle.bit_queue.proofs.Turns.{found_from_turn, found_before_turn, next_found}
 use Rattle.bit_queue.proofs.round_robin.RoundRobin.peek.Goals as goal
 
@@ -27,3 +32,17 @@ returns-in-None-clause-next g c =
     let capacity = g.met.B.FixedCapacity.one_capacity c.args.self.now.ready in
     next_found _ c.args.self.now.turn _ c.first_one_in-in-None.result (sym capacity)
     (returns-in-None-clause-task g c)
+
+pub returns-in-Some-clause-some : goal.returns-in-Some-clause-some
+returns-in-Some-clause-some g c =
+    let s : PlainSet = set_in g.B.Shape g.B.Order.Endian c.args.self.now.ready in
+    let capacity = g.met.B.FixedCapacity.one_capacity c.args.self.now.ready in
+    found_counts s _ (Some c.in-Some.task) (IsNextInTurn (round_at s c.args.self.now.turn)) (sym capacity)
+    (λ k next. (next.within, next.is_ready)) (returns-in-Some-clause-next g c)
+
+pub returns-in-None-clause-some : goal.returns-in-None-clause-some
+returns-in-None-clause-some g c =
+    let s : PlainSet = set_in g.B.Shape g.B.Order.Endian c.args.self.now.ready in
+    let capacity = g.met.B.FixedCapacity.one_capacity c.args.self.now.ready in
+    found_counts s _ c.first_one_in-in-None.result (IsNextInTurn (round_at s c.args.self.now.turn)) (sym capacity)
+    (λ k next. (next.within, next.is_ready)) (returns-in-None-clause-next g c)
