@@ -1,8 +1,8 @@
--- Histories and lists of requests, and histories one after the other.
-use Rattle.std.proofs.Common.{◌≡◌, List, [], ◌∷◌, ◌++◌, refl, ap, ◌∙◌, subst}
+-- Lists of requests and their answers, and histories of calls.
+use Rattle.std.proofs.Common.{◌≡◌, zero, suc, List, [], ◌∷◌, ◌++◌, refl, ap, ◌∙◌, subst}
 use Rattle.std.specs.List.{fold, scan}
 use Rattle.std.specs.Prelude.{map}
-use Rattle.bit_histories.specs.Histories.{IsHistory, CallsAnswerAsLists}
+use Rattle.bit_histories.specs.Histories.{IsHistory, CallsAnswerAsLists, AnswersAreOfTheirStates}
 
 module _ {S Q A : Type 0} (answer_to : S → Q → A) (state_after : S → Q → S) where
   -- the calls of a history answer as the machine does on the list of their requests
@@ -30,7 +30,7 @@ module _ {S Q A : Type 0} (answer_to : S → Q → A) (state_after : S → Q →
       let next = state_after before call.0 in
       let first : call.1 ≡ answer_to before call.0 = cc in
       let rest : map (λ call. call.1) calls
-          ≡ scan state_after answer_to next (map (λ call. call.0) calls) = cc in
+      ≡ scan state_after answer_to next (map (λ call. call.0) calls) = cc in
       (next, record { answered = first; left = refl }, is_history next after calls rest last)
 
   pub history_is_list : CallsAnswerAsLists answer_to state_after (scan state_after answer_to)
@@ -39,6 +39,12 @@ module _ {S Q A : Type 0} (answer_to : S → Q → A) (state_after : S → Q →
     answers_as_list before after calls,
     λ is. is_history before after calls is.0 is.1,
   )
+
+  pub answered_at : AnswersAreOfTheirStates answer_to state_after (scan state_after answer_to)
+      (fold state_after)
+  answered_at s [] i = refl
+  answered_at s (request ∷ requests) zero = refl
+  answered_at s (request ∷ requests) (suc i) = answered_at (state_after s request) requests i
 
   -- two histories, the second from where the first ends, are one history
   pub histories_join : (before between after : S) (first second : List (Q × A)) →

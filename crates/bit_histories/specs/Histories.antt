@@ -1,5 +1,5 @@
 -- Histories of calls on a machine, which answers each request in each state, and goes to another.
-use Rattle.std.specs.Prelude.{◌≡◌, ◌↔◌, List, [], ◌∷◌, map}
+use Rattle.std.specs.Prelude.{◌≡◌, ◌↔◌, ◌+◌, ℕ, List, [], ◌∷◌, map, option_map, slice_get, take}
 
 -- the machine with these answers to requests, and these states after them
 module _ {S Q A : Type 0} (answer_to : S → Q → A) (state_after : S → Q → S) where
@@ -22,3 +22,18 @@ module _ {S Q A : Type 0} (answer_to : S → Q → A) (state_after : S → Q →
       (before after : S) (calls : List (Q × A)) → IsHistory before calls after
       ↔ ((map (λ call. call.1) calls ≡ answers before (map (λ call. call.0) calls))
       × (after ≡ last_state before (map (λ call. call.0) calls)))
+
+  -- there is an answer i exactly if there is a request i: the answer to this request in the state
+  -- that the requests before it leave
+  abbrev pub AnswersAreOfTheirStates : (S → List Q → List A) → (S → List Q → S) → Type 0
+  AnswersAreOfTheirStates answers last_state =
+      (s : S) (requests : List Q) (i : ℕ)
+      → slice_get (answers s requests) i
+      ≡ option_map (answer_to (last_state s (take i requests))) (slice_get requests i)
+
+-- the sum of `count` over all requests of a list, each with its answer
+unfoldable pub total : {Q A : Type 0} → (Q → A → ℕ) → List Q → List A → ℕ
+total count [] answers = 0
+total count (request ∷ requests) [] = 0
+total count (request ∷ requests) (answer ∷ answers) =
+    count request answer + total count requests answers

@@ -1,23 +1,14 @@
 -- Laws of every list of events, for any machine with these properties: only ready tasks run, a task
 -- that runs is no longer ready, and a task becomes ready only by a wake.
-use Rattle.std.proofs.Common.{◌≡◌, ℕ, zero, suc, ◌+◌, ◌<◌, ◌⊎◌, Bool, true, false, List, [], ◌∷◌, Some, inl, inr, refl, sym, ap, ◌∙◌, arith}
+use Rattle.std.proofs.Common.{◌≡◌, ℕ, zero, suc, ◌+◌, ◌<◌, ◌⊎◌, Bool, true, false, List, [], ◌∷◌, Some, inl, inr, sym, ap, ◌∙◌, arith}
 use Rattle.std.specs.List.{fold, scan}
-use Rattle.std.specs.Prelude.{slice_get, take, option_map}
+use Rattle.std.specs.Prelude.{slice_get}
 use Rattle.std.proofs.lemmas.Bool.{cases_Bool, true≢false}
 use Rattle.bit_queue.specs.QueueLaws.{IsLeftReady, NeverRunsFrom}
 use Rattle.bit_queue.specs.declared.Answer.{Answer}
 use Rattle.bit_queue.specs.declared.Answer.TheVariants.{Runs}
 use Rattle.bit_queue.specs.declared.Event.{Event}
 use Rattle.bit_queue.specs.declared.Event.TheVariants.{Wake}
-
--- an answer of a list is the answer in the state that the events before it leave
-pub answered_at : {S : Type 0} (answer : S → Event → Answer) (after : S → Event → S) (s : S)
-    (events : List Event) (i : ℕ) → slice_get (scan after answer s events) i
-    ≡ option_map (answer (fold after s (take i events))) (slice_get events i)
-answered_at answer after s [] i = refl
-answered_at answer after s (event ∷ events) zero = refl
-answered_at answer after s (event ∷ events) (suc i) =
-    answered_at answer after (after s event) events i
 
 module _ {S : Type 0} (answer : S → Event → Answer) (after : S → Event → S) (ready : S → ℕ → Bool)
     (runs_ready : (s : S) (event : Event) (task : ℕ) → answer s event ≡ Runs task →

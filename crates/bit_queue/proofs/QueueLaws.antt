@@ -1,7 +1,7 @@
 -- What follows from the queue machine for every list of events.
 use Rattle.std.proofs.Common.{◌≡◌, ℕ, zero, suc, ◌+◌, ◌<◌, ◌≤◌, ◌⊎◌, Bool, true, false, not, cond, ◌&&◌, ◌||◌, ◌==◌, nat_lt, Option, Some, None, List, [], ◌∷◌, inl, inr, refl, sym, ap, ◌∙◌, arith}
 use Rattle.std.specs.List.{count_by, fold, scan}
-use Rattle.std.specs.Prelude.{◌↔◌, MatchOption, slice_get, take, option_map}
+use Rattle.std.specs.Prelude.{◌↔◌, MatchOption}
 use Rattle.std.proofs.lemmas.Bool.{cases_eq, cases_Bool, cases_lt, lt-ltb, ltb-true, le-ltb, eq-eqb, ne_eqb, or_right, and_parts, and_right, true≢false}
 use Rattle.bittle.specs.PlainSet.{PlainSet, members_below}
 use Rattle.bittle.specs.Searches.{NoneIn}
@@ -199,12 +199,6 @@ stays s Next task is never = by (most_urgent s) never
     by : (o : Option ℕ) → (runs_or_idle o ≡ Runs task → ⊥) → (without_picked s o).has task ≡ true
     by None never = is
     by (Some p) never = others_stay s p task (λ same. never (ap Runs (sym same))) ∙ is
-
-pub answered_at : (s : PlainSet) (events : List Event) (i : ℕ) →
-    slice_get (event_answers s events) i
-    ≡ option_map (answer_to (final_state s (take i events))) (slice_get events i)
-unfolding event_answers final_state
-answered_at = histories.answered_at answer_to state_after
 
 pub woken_first : (s : PlainSet) (events : List Event) (task : ℕ) → s.has task ≡ false →
     IsWokenFirst events (event_answers s events) task

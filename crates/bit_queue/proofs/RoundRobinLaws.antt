@@ -1,7 +1,7 @@
 -- What follows from the round-robin machine for every list of events.
 use Rattle.std.proofs.Common.{◌≡◌, ℕ, zero, suc, ◌+◌, ◌<◌, ◌≤◌, ◌⊎◌, Bool, true, false, not, cond, ◌&&◌, ◌||◌, ◌==◌, nat_lt, Option, Some, None, List, [], ◌∷◌, inl, inr, refl, sym, ap, ◌∙◌, arith}
 use Rattle.std.specs.List.{count_by, fold, scan, list_any}
-use Rattle.std.specs.Prelude.{◌↔◌, MatchOption, slice_get, take, option_map}
+use Rattle.std.specs.Prelude.{◌↔◌, MatchOption, slice_get}
 use Rattle.std.proofs.lemmas.Bool.{cases_eq, cases_Bool, cases_lt, ltb-true, or_right, and_parts, and_right, true≢false}
 use Rattle.bittle.specs.PlainSet.{PlainSet, count_below, size}
 use Rattle.bittle.specs.Searches.{NoneIn}
@@ -147,12 +147,6 @@ stays r Next task is never = by (next_in_turn r) never
 woken_in_turn : (r : Round) (task : ℕ) → task < r.ready.capacity →
     (round_after r (Wake task)).ready.has task ≡ true
 woken_in_turn r task h = woken_ready r.ready task h
-
-pub answered_at : (r : Round) (events : List Event) (i : ℕ) →
-    slice_get (answers_in_turn r events) i
-    ≡ option_map (answer_in_turn (final_round r (take i events))) (slice_get events i)
-unfolding answers_in_turn final_round
-answered_at = histories.answered_at answer_in_turn round_after
 
 -- the turn after one event follows from the answer to it
 turn_follows : (r : Round) (event : Event) →

@@ -1,6 +1,6 @@
 -- Laws of the queue machine, for all events.
 use Rattle.std.specs.List.{count_by}
-use Rattle.std.specs.Prelude.{◌≡◌, ◌≢◌, ℕ, ◌+◌, ◌<◌, ◌≤◌, ◌↔◌, ◌⊎◌, Bool, true, false, nat_lt, Some, List, slice_get, take, option_map}
+use Rattle.std.specs.Prelude.{◌≡◌, ◌≢◌, ℕ, ◌+◌, ◌<◌, ◌≤◌, ◌↔◌, ◌⊎◌, Bool, true, false, nat_lt, Some, List, slice_get}
 use Rattle.bittle.specs.PlainSet.{PlainSet, members_below}
 use Rattle.bittle.specs.Searches.{NoneIn}
 use Rattle.bit_queue.specs.Queue.{is_ready, answer_to, state_after, event_answers, final_state}
@@ -39,14 +39,6 @@ NoTaskAndIdleChangeNothing =
     (s : PlainSet) (event : Event)
     → (answer_to s event ≡ NoTask) ⊎ (answer_to s event ≡ Idle)
     → state_after s event ≡ s
-
--- there is an answer i exactly if there is an event i: the answer to this event in the state that
--- the events before it leave
-abbrev pub AnswersAreOfTheirStates : Type 0
-AnswersAreOfTheirStates =
-    (s : PlainSet) (events : List Event) (i : ℕ)
-    → slice_get (event_answers s events) i
-    ≡ option_map (answer_to (final_state s (take i events))) (slice_get events i)
 
 -- a task is woken before it runs
 abbrev pub IsWokenFirst : List Event → List Answer → ℕ → Type 0

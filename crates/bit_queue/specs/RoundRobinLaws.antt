@@ -1,6 +1,6 @@
 -- Laws of the round-robin machine, for all events.
 use Rattle.std.specs.List.{count_by, fold, list_any}
-use Rattle.std.specs.Prelude.{◌≡◌, ℕ, ◌+◌, ◌<◌, ◌≤◌, ◌↔◌, ◌⊎◌, Bool, true, false, ◌&&◌, ◌||◌, ◌==◌, nat_le, nat_lt, if◌then◌else◌, Some, List, slice_get, take, option_map}
+use Rattle.std.specs.Prelude.{◌≡◌, ℕ, ◌+◌, ◌<◌, ◌≤◌, ◌↔◌, ◌⊎◌, Bool, true, false, ◌&&◌, ◌||◌, ◌==◌, nat_le, nat_lt, if◌then◌else◌, Some, List, slice_get}
 use Rattle.bittle.specs.PlainSet.{PlainSet, size}
 use Rattle.bittle.specs.Searches.{NoneIn}
 use Rattle.bit_queue.specs.Queue.{is_ready}
@@ -50,14 +50,6 @@ NoTaskAndIdleChangeNoRound =
     (r : Round) (event : Event)
     → (answer_in_turn r event ≡ NoTask) ⊎ (answer_in_turn r event ≡ Idle)
     → round_after r event ≡ r
-
--- there is an answer i exactly if there is an event i: the answer to this event in the round that
--- the events before it leave
-abbrev pub AnswersAreOfTheirRounds : Type 0
-AnswersAreOfTheirRounds =
-    (r : Round) (events : List Event) (i : ℕ)
-    → slice_get (answers_in_turn r events) i
-    ≡ option_map (answer_in_turn (final_round r (take i events))) (slice_get events i)
 
 -- the turn after an answer: one more than the task that runs, or else as before
 abbrev pub turn_after : ℕ → Answer → ℕ

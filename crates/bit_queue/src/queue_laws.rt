@@ -3,10 +3,10 @@
 //! contract of `serve` states that `serve` answers as this machine does, and leaves the machine's
 //! last state.
 
-ghost use Rattle.bit_histories.specs.Histories.{CallsAnswerAsLists};
+ghost use Rattle.bit_histories.specs.Histories.{AnswersAreOfTheirStates, CallsAnswerAsLists};
 ghost use Rattle.bit_queue.specs.Queue.{answer_to, state_after, event_answers, final_state};
 ghost use Rattle.bit_queue.specs.QueueLaws.{MostUrgentRuns, IdleExactlyIfNoneIsReady};
-ghost use Rattle.bit_queue.specs.QueueLaws.{AnswersAreOfTheirStates, RestingTasksAreWokenFirst};
+ghost use Rattle.bit_queue.specs.QueueLaws.{RestingTasksAreWokenFirst};
 ghost use Rattle.bit_queue.specs.QueueLaws.{NoTaskExactlyIfThereIsNone, ReadyAreThoseNotRun};
 ghost use Rattle.bit_queue.specs.QueueLaws.{TasksAreWokenBetween, TasksRunInTime};
 ghost use Rattle.bit_queue.specs.QueueLaws.{NoTaskAndIdleChangeNothing};
@@ -37,7 +37,7 @@ pub fn no_task_and_idle_change_nothing()
 /// answer to this event in the state (the set of the ready tasks) that the earlier events leave. So
 /// what holds of one answer in any state holds of each answer of the list.
 pub fn answers_are_of_their_states()
-    ensures { AnswersAreOfTheirStates }
+    ensures { AnswersAreOfTheirStates answer_to state_after event_answers final_state }
 {}
 
 /// States that a task which is not ready runs only after it was woken.

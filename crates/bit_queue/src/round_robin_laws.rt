@@ -3,12 +3,11 @@
 //! contract of `serve` states that `serve` answers as this machine does, and leaves the machine's
 //! last state.
 
-ghost use Rattle.bit_histories.specs.Histories.{CallsAnswerAsLists};
+ghost use Rattle.bit_histories.specs.Histories.{AnswersAreOfTheirStates, CallsAnswerAsLists};
 ghost use Rattle.bit_queue.specs.RoundRobin.{answer_in_turn, round_after};
 ghost use Rattle.bit_queue.specs.RoundRobin.{answers_in_turn, final_round};
 ghost use Rattle.bit_queue.specs.RoundRobinLaws.{NextInTurnRuns, RoundIsIdleExactlyIfNoneIsReady};
-ghost use Rattle.bit_queue.specs.RoundRobinLaws.{AnswersAreOfTheirRounds, TurnIsPastTheLastRun};
-ghost use Rattle.bit_queue.specs.RoundRobinLaws.{NoTaskAndIdleChangeNoRound};
+ghost use Rattle.bit_queue.specs.RoundRobinLaws.{NoTaskAndIdleChangeNoRound, TurnIsPastTheLastRun};
 ghost use Rattle.bit_queue.specs.RoundRobinLaws.{RoundHasNoTaskExactlyIfThereIsNone};
 ghost use Rattle.bit_queue.specs.RoundRobinLaws.{ReadyAreThoseNotRunInTurn};
 ghost use Rattle.bit_queue.specs.RoundRobinLaws.{NoTaskRunsTwiceBeforeAReadyTask};
@@ -43,7 +42,7 @@ pub fn no_task_and_idle_change_nothing()
 /// answer to this event in the round (the ready tasks and the turn) that the earlier events leave.
 /// So what holds of one answer in any round holds of each answer of the list.
 pub fn answers_are_of_their_rounds()
-    ensures { AnswersAreOfTheirRounds }
+    ensures { AnswersAreOfTheirStates answer_in_turn round_after answers_in_turn final_round }
 {}
 
 /// States that the turn after a list of events is one more than the number of the task that ran
