@@ -8,7 +8,7 @@ use Rattle.bittle.specs.Searches.{NoneIn}
 use Rattle.bit_entities.specs.EntityLaws.{VisitsFrom}
 use Rattle.bittle.specs.SetOperations.{conjunction_of, combination_has}
 use Rattle.bittle.proofs.CallerSets.{combination_within}
-use Rattle.bit_entities.specs.Entities.{World, IsWorld, EndsAtCapacity, matching, having, LeadsTo}
+use Rattle.bit_entities.specs.Entities.{World, IsWorld, EndsAtCapacity, matching, having, IncludesMatching}
 
 -- the conjunction of a mask and the mask of a component is `having`
 pub kept_by_mask : (w : World) (s t : PlainSet) (component : ℕ) → s.capacity ≡ t.capacity →
@@ -81,7 +81,7 @@ matching_ends w required is k h = elim (cases_Bool (w.alive.has k)) [
 -- each entity that matches is in the mask of the first required component
 pub first_leads : (w : World) (required : List ℕ) (component : ℕ) (mask : PlainSet) → IsWorld w →
     0 < length required → get_or required 0 component ≡ component →
-    ((k : ℕ) → mask.has k ≡ w.has k component) → LeadsTo w required mask
+    ((k : ℕ) → mask.has k ≡ w.has k component) → IncludesMatching w required mask
 first_leads w required component mask is some first has = record {
   has_all = λ k e. elim (cases_Bool (mask.has k)) [
     | inl in_mask ↦ in_mask

@@ -113,7 +113,7 @@ matching w required = record {
 
 -- each living entity that has the required components is in the mask, and each entity in the mask
 -- is alive
-pub record LeadsTo (w : World) (required : List ℕ) (mask : PlainSet) : Type 0 where
+pub record IncludesMatching (w : World) (required : List ℕ) (mask : PlainSet) : Type 0 where
   pub has_all : (entity : ℕ) → (matching w required).has entity ≡ true → mask.has entity ≡ true
   pub are_alive : (entity : ℕ) → mask.has entity ≡ true → w.alive.has entity ≡ true
 

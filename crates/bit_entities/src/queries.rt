@@ -5,7 +5,7 @@ ghost use Rattle.std.specs.Prelude.{◌≡◌, ◌<◌, ◌≤◌, ℕ, false, [
 ghost use Rattle.bittle.specs.Searches.{IsFirstIn};
 ghost use Rattle.bittle.specs.Values.{set_in, ShapeFits};
 ghost use Rattle.bit_entities.specs.Entities.{world_of, EndsAtCapacity, matching, having};
-ghost use Rattle.bit_entities.specs.Entities.{LeadsTo};
+ghost use Rattle.bit_entities.specs.Entities.{IncludesMatching};
 
 use crate::World;
 use bittle::BitsOwned;
@@ -85,7 +85,7 @@ impl<B: BitsOwned, const N: usize> World<B, N> {
         ensures { let world = world_of N (set_in B.Shape B.Order.Endian) self.now.alive
             self.now.components in MatchOption result
             ((entity : ℕ) → (matching world required.now).has entity ≡ false)
-            (λ mask. LeadsTo world required.now (set_in B.Shape B.Order.Endian mask.now)) }
+            (λ mask. IncludesMatching world required.now (set_in B.Shape B.Order.Endian mask.now)) }
     {
         let Some(component) = required.first() else {
             return Some(&self.alive);
