@@ -83,7 +83,8 @@ spawned_is w (Detach other component) entity e =
     absurd (no_spawn (may_have w other component) entity e)
 
 -- a number below the capacity that is not in the complement is a member
-in_it : (s : PlainSet) (k : ℕ) → k < s.capacity → (complement s).has k ≡ false → s.has k ≡ true
+pub in_it : (s : PlainSet) (k : ℕ) → k < s.capacity → (complement s).has k ≡ false →
+    s.has k ≡ true
 in_it s k h e = by (s.has k) (sym (complement_within s k h) ∙ e)
   where
     by : (b : Bool) → not b ≡ false → b ≡ true

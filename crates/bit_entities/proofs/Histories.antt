@@ -486,14 +486,15 @@ module _ (entity component : ℕ) where
           )
 
 pub kept_iff : (w : World) (events : List Event) (entity component : ℕ) → IsWorld w →
-    w.has entity component ≡ false → ((final_world w events).has entity component ≡ true)
-    ↔ ((k : ℕ) × IsKeptFrom w events entity component k)
-kept_iff w events entity component is lacks =
-    (to, λ from. kept_from entity component w events from.0 from.1)
+    ((final_world w events).has entity component ≡ true)
+    ↔ (((w.has entity component ≡ true)
+    × ((j : ℕ) → (slice_get events j ≢ Some (Remove entity))
+    × (slice_get events j ≢ Some (Detach entity component))))
+    ⊎ ((k : ℕ) × IsKeptFrom w events entity component k))
+kept_iff w events entity component is = (had_or_given entity component w events is, from)
   where
-    to : (final_world w events).has entity component ≡ true →
-        (k : ℕ) × IsKeptFrom w events entity component k
-    to has = elim (had_or_given entity component w events is has) [
-      | inl had ↦ absurd (true≢false (sym had.0 ∙ lacks))
-      | inr from ↦ from
-    ]
+    from : ((w.has entity component ≡ true) × NoneTakes entity component events)
+        ⊎ ((k : ℕ) × IsKeptFrom w events entity component k) →
+        (final_world w events).has entity component ≡ true
+    from (inl had) = kept_to_end entity component w events had.0 had.1
+    from (inr given) = kept_from entity component w events given.0 given.1

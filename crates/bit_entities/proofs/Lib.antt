@@ -1,3 +1,4 @@
+pub mod Counts
 pub mod EntityLaws
 pub mod Histories
 pub mod LeastDead

@@ -1,8 +1,8 @@
 -- What a change of a world, or an event, leaves as it was.
-use Rattle.std.proofs.Common.{◌≡◌, ◌≢◌, ℕ, ◌⊎◌, Bool, true, false, cond, ◌&&◌, ◌==◌, Option, Some, None, inl, inr, refl, sym, ap, ◌∙◌, subst}
+use Rattle.std.proofs.Common.{◌≡◌, ◌≢◌, ℕ, ◌⊎◌, Bool, true, false, cond, ◌&&◌, ◌==◌, Option, Some, None, List, [], ◌∷◌, inl, inr, refl, sym, ap, ◌∙◌, subst}
 use Rattle.std.proofs.lemmas.Bool.{eq-eqb, ne_eqb}
 use Rattle.bittle.specs.PlainSet.{PlainSet}
-use Rattle.bit_entities.specs.Entities.{World, least_dead, may_have, with_number, without_entity, with_component, spawned_or_full, with_spawned, answer_to, world_after}
+use Rattle.bit_entities.specs.Entities.{World, least_dead, may_have, with_number, without_entity, with_component, spawned_or_full, with_spawned, answer_to, world_after, final_world}
 use Rattle.bit_entities.specs.EntityLaws.{names, IsUnchanged}
 use Rattle.bit_entities.specs.declared.Event.{Event}
 use Rattle.bit_entities.specs.declared.Event.TheVariants.{Spawn, Remove, Attach, Detach}
@@ -111,17 +111,29 @@ components_stay w event entity component (inr e) =
     (other_component w entity component false (may_have w entity component))
 
 -- no event changes how many numbers and how many components there are
-pub sizes_stay : (w : World) (event : Event) →
+one_keeps_sizes : (w : World) (event : Event) →
     ((world_after w event).alive.capacity ≡ w.alive.capacity)
     × ((world_after w event).components ≡ w.components)
-sizes_stay w Spawn = by (least_dead w)
+one_keeps_sizes w Spawn = by (least_dead w)
   where
     by : (o : Option ℕ) → ((with_spawned w o).alive.capacity ≡ w.alive.capacity)
         × ((with_spawned w o).components ≡ w.components)
     by None = (refl, refl)
     by (Some k) = (refl, refl)
-sizes_stay w (Remove entity) = same_sizes w (without_entity w entity) (w.alive.has entity) (refl, refl)
-sizes_stay w (Attach entity component) =
+one_keeps_sizes w (Remove entity) =
+    same_sizes w (without_entity w entity) (w.alive.has entity) (refl, refl)
+one_keeps_sizes w (Attach entity component) =
     same_sizes w (with_component w entity component true) (may_have w entity component) (refl, refl)
-sizes_stay w (Detach entity component) =
+one_keeps_sizes w (Detach entity component) =
     same_sizes w (with_component w entity component false) (may_have w entity component) (refl, refl)
+
+-- no list of events changes how many numbers and how many components there are
+pub sizes_stay : (w : World) (events : List Event) →
+    ((final_world w events).alive.capacity ≡ w.alive.capacity)
+    × ((final_world w events).components ≡ w.components)
+unfolding final_world
+sizes_stay w [] = (refl, refl)
+sizes_stay w (event ∷ events) =
+    let one = one_keeps_sizes w event in
+    let later = sizes_stay (world_after w event) events in
+    (later.0 ∙ one.0, later.1 ∙ one.1)

@@ -1,10 +1,11 @@
 -- Laws of the entity machine, for all events.
-use Rattle.std.specs.Prelude.{◌≡◌, ◌≢◌, ℕ, suc, ◌<◌, ◌⊎◌, ◌↔◌, Bool, true, false, ◌==◌, Some, List, [], ◌∷◌, option_map, slice_get, take}
-use Rattle.bittle.specs.PlainSet.{PlainSet, ascending}
+use Rattle.std.specs.Prelude.{◌≡◌, ◌≢◌, ℕ, suc, ◌+◌, ◌<◌, ◌⊎◌, ◌↔◌, Bool, true, false, ◌==◌, Some, List, [], ◌∷◌, option_map, slice_get, take}
+use Rattle.bittle.specs.PlainSet.{PlainSet, ascending, size}
 use Rattle.bittle.specs.Searches.{NoneIn, IsFirstIn}
 use Rattle.bit_entities.specs.Entities.{World, IsWorld, empty_world, answer_to, world_after, event_answers, final_world, matching}
 use Rattle.bit_entities.specs.declared.Event.{Event}
 use Rattle.bit_entities.specs.declared.Event.TheVariants.{Spawn, Remove, Attach, Detach}
+use Rattle.bit_entities.specs.declared.Answer.{Answer}
 use Rattle.bit_entities.specs.declared.Answer.TheVariants.{Spawned, Full, Done, Refused}
 
 -- a world stays as `IsWorld` says after any events
@@ -102,12 +103,49 @@ OtherComponentsStay =
     → ((world_after w event).alive ≡ w.alive)
     × ((each other : ℕ) → other ≢ component → (world_after w event).has each other ≡ w.has each other)
 
--- no event changes how many numbers and how many components there are
+-- no list of events changes how many numbers and how many components there are
 abbrev pub SizesStay : Type 0
 SizesStay =
-    (w : World) (event : Event)
-    → ((world_after w event).alive.capacity ≡ w.alive.capacity)
-    × ((world_after w event).components ≡ w.components)
+    (w : World) (events : List Event)
+    → ((final_world w events).alive.capacity ≡ w.alive.capacity)
+    × ((final_world w events).components ≡ w.components)
+
+-- how many entities an event with this answer spawned: 1 or 0
+abbrev pub spawned_by : Event → Answer → ℕ
+spawned_by event (Spawned entity) = 1
+spawned_by event Full = 0
+spawned_by event Done = 0
+spawned_by event Refused = 0
+
+-- how many entities an event removes if it is done: 1 or 0
+abbrev pub removals : Event → ℕ
+removals Spawn = 0
+removals (Remove entity) = 1
+removals (Attach entity component) = 0
+removals (Detach entity component) = 0
+
+-- how many entities an event with this answer removed: 1 or 0
+abbrev pub removed_by : Event → Answer → ℕ
+removed_by event (Spawned entity) = 0
+removed_by event Full = 0
+removed_by event Done = removals event
+removed_by event Refused = 0
+
+-- the sum of `count` over all events of a list, each with its answer
+unfoldable pub total : (Event → Answer → ℕ) → List Event → List Answer → ℕ
+total count [] answers = 0
+total count (event ∷ events) [] = 0
+total count (event ∷ events) (answer ∷ answers) =
+    count event answer + total count events answers
+
+-- the number of entities alive after a list of events, plus the number that the list removed, is the
+-- number alive before the list, plus the number that the list spawned
+abbrev pub LivingAreCounted : Type 0
+LivingAreCounted =
+    (w : World) (events : List Event)
+    → IsWorld w
+    → size (final_world w events).alive + total removed_by events (event_answers w events)
+    ≡ size w.alive + total spawned_by events (event_answers w events)
 
 -- answer i of a list is the answer to event i, in the world that the events before it leave; there
 -- is an answer to each event, and no other
@@ -161,15 +199,18 @@ pub record IsKeptFrom (w : World) (events : List Event) (entity component k : �
   pub not_removed : (j : ℕ) → k < j → slice_get events j ≢ Some (Remove entity)
   pub not_detached : (j : ℕ) → k < j → slice_get events j ≢ Some (Detach entity component)
 
--- an entity that lacks a component has the component after a list of events exactly if an event
--- gives it, and no later event removes the entity or takes the component away
+-- an entity has a component after a list of events exactly if it had the component before and no
+-- event removes the entity or takes the component away, or an event gives it and no later event
+-- removes the entity or takes the component away
 abbrev pub ComponentsAreThoseKept : Type 0
 ComponentsAreThoseKept =
     (w : World) (events : List Event) (entity component : ℕ)
     → IsWorld w
-    → w.has entity component ≡ false
     → ((final_world w events).has entity component ≡ true)
-    ↔ ((k : ℕ) × IsKeptFrom w events entity component k)
+    ↔ (((w.has entity component ≡ true)
+    × ((j : ℕ) → (slice_get events j ≢ Some (Remove entity))
+    × (slice_get events j ≢ Some (Detach entity component))))
+    ⊎ ((k : ℕ) × IsKeptFrom w events entity component k))
 
 -- the list visits the members that are at least `from`: first the least of them, and then the
 -- members past it

@@ -11,6 +11,7 @@ ghost use Rattle.bit_entities.specs.EntityLaws.{DoneExactlyIfPossible, RefusedCh
 ghost use Rattle.bit_entities.specs.EntityLaws.{OthersAreUnchanged, OtherComponentsStay, SizesStay};
 ghost use Rattle.bit_entities.specs.EntityLaws.{AnswersAreOfTheirWorlds, SpawnedAreRemovedBetween};
 ghost use Rattle.bit_entities.specs.EntityLaws.{LivingAreRemovedFirst, LivingAreThoseKept};
+ghost use Rattle.bit_entities.specs.EntityLaws.{LivingAreCounted};
 ghost use Rattle.bit_entities.specs.EntityLaws.{ComponentsAreThoseKept, QueriesVisitEachOnce};
 
 /// States that a world stays as `IsWorld` says after any list of events. So if no dead entity has a
@@ -65,9 +66,15 @@ pub fn other_components_stay()
     ensures { OtherComponentsStay }
 {}
 
-/// States that no event changes how many numbers and how many components there are.
+/// States that no list of events changes how many numbers and how many components there are.
 pub fn sizes_stay()
     ensures { SizesStay }
+{}
+
+/// States that after a list of events as many entities are alive as before, plus those that the
+/// list spawned, without those that it removed.
+pub fn living_are_counted()
+    ensures { LivingAreCounted }
 {}
 
 /// States that in every list, answer `i` is the answer to event `i` in the world that the earlier
@@ -94,8 +101,9 @@ pub fn living_are_those_kept()
     ensures { LivingAreThoseKept }
 {}
 
-/// States that an entity that lacks a component has the component after a list of events exactly if
-/// the list gives it, and afterwards neither removes the entity nor takes the component away.
+/// States that an entity has a component after a list of events exactly if it had the component
+/// before and the list neither removes the entity nor takes the component away, or the list gives
+/// the component and afterwards does neither.
 pub fn components_are_those_kept()
     ensures { ComponentsAreThoseKept }
 {}
