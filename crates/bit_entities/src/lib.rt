@@ -26,7 +26,7 @@
 
 ghost use Rattle.std.specs.Option.{is_some};
 ghost use Rattle.std.specs.Prelude.{◌≡◌, ◌≢◌, ◌<◌, ◌≤◌, ◌+◌, ℕ, length, true, false, IfSome, IsTrue};
-ghost use Rattle.std.specs.Prelude.{Some, ◌==◌, cond, if◌then◌else◌};
+ghost use Rattle.std.specs.Prelude.{MatchOption, Some, ◌==◌, cond, if◌then◌else◌};
 ghost use Rattle.bittle.specs.PlainSet.{complement, size};
 ghost use Rattle.bittle.specs.Searches.{IsFirstIn};
 ghost use Rattle.bittle.specs.Shapes.{Fits};
@@ -174,6 +174,8 @@ impl<B: BitsOwned, const N: usize> World<B, N> {
             self.old.alive self.old.components) }
         ensures least { IsFirstIn (complement (set_in B.Shape B.Order.Endian self.old.alive)) 0
             B.type_capacity result }
+        ensures room { let living = size (set_in B.Shape B.Order.Endian self.old.alive) in
+            MatchOption result (living ≡ B.type_capacity) (λ _. living < B.type_capacity) }
         ensures below { IfSome result (λ entity. entity < B.type_capacity) }
         ensures was_dead { let before = world_of N (set_in B.Shape B.Order.Endian) self.old.alive
             self.old.components in IfSome result (λ entity. before.alive.has entity ≡ false) }

@@ -3,6 +3,7 @@ use Rattle.bittle.specs.PlainSet.{PlainSet, complement, size}
 use Rattle.bittle.specs.Values.{set_in}
 use Rattle.bittle.proofs.CallerChanges.{size_with}
 use Rattle.bit_entities.specs.Entities.{World, IsWorld, world_of, with_spawned}
+use Rattle.bit_entities.proofs.Counts.{none_is_full, free_is_room}
 use Rattle.bit_entities.proofs.LeastDead.{first_listed, outside}
 use Rattle.bit_entities.proofs.Masks.{put_in, number_now}
 use Rattle.bit_entities.proofs.Others.{number_other}
@@ -89,3 +90,18 @@ returns-clause-count g c =
     let entity = c.in_ok-entity.entity in
     let found = outside alive entity c.in_ok-entity.ensures.2 in
     ap size c.set_bit.ensures.set ∙ size_with alive entity found.0 found.1
+
+pub returns-in_err-entity-clause-room : goal.returns-in_err-entity-clause-room
+returns-in_err-entity-clause-room g c =
+    let alive : PlainSet = set_in g.B.Shape g.B.Order.Endian c.args.self.now.alive in
+    let capacity = g.met.B.FixedCapacity.one_capacity c.args.self.now.alive in
+    let bits = c.bits.ensures.value c.args.self.now.fits in
+    rw (c.from_residual.ensures) (none_is_full alive
+    (λ k p h. c.in_err-entity.ensures k p (omega (arith, capacity, bits, h))) ∙ capacity)
+
+pub returns-clause-room : goal.returns-clause-room
+returns-clause-room g c =
+    let alive : PlainSet = set_in g.B.Shape g.B.Order.Endian c.args.self.now.alive in
+    let capacity = g.met.B.FixedCapacity.one_capacity c.args.self.now.alive in
+    let room = free_is_room alive c.in_ok-entity.entity c.in_ok-entity.ensures.2 in
+    omega (arith, capacity, room)
