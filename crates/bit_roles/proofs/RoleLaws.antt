@@ -3,9 +3,9 @@ use Rattle.std.proofs.Common.{◌≡◌, ℕ, zero, suc, ◌+◌, ◌<◌, ◌�
 use Rattle.std.specs.List.{list_any}
 use Rattle.std.specs.Option.{option_map}
 use Rattle.std.specs.Prelude.{slice_get, take}
-use Rattle.std.proofs.lemmas.Bool.{cases_eq, lt-ltb, ltb-true, eq-eqb, eqb-true, ne_eqb, or_left, or_right, and_from, and_parts, and_right}
+use Rattle.std.proofs.lemmas.Bool.{cases_eq, cases_lt, lt-ltb, ltb-true, eq-eqb, eqb-true, ne_eqb, or_left, or_right, and_from, and_parts, and_right}
 use Rattle.std.proofs.lemmas.Option.{same_Some}
-use Rattle.bit_roles.specs.Roles.{Roles, parent_of, ancestor, LeadsTo, Allows, HasLesserParents, may_grant, may_inherit, with_granted, with_parent, answer_to, roles_after, request_answers, final_roles, bare_roles}
+use Rattle.bit_roles.specs.Roles.{Roles, parent_of, ancestor, LeadsTo, Allows, AllowsUpTo, HasLesserParents, may_grant, may_inherit, with_granted, with_parent, answer_to, roles_after, request_answers, final_roles, bare_roles}
 use Rattle.bit_roles.specs.RoleLaws.{grants, IsPossible, GivesParent, GivesNoParentFrom}
 use Rattle.bit_roles.specs.declared.Request.{Request}
 use Rattle.bit_roles.specs.declared.Request.TheVariants.{Grant, Inherit}
@@ -490,20 +490,22 @@ others_gain_nothing r role permission other allowed apart a =
     by Refused is =
         subst (λ q. Allows q other allowed) (refused_keeps r (Grant role permission) is) a
 
--- a new parent of a role changes no chain that does not come to the role
-chain_past : (r : Roles) (role parent other n : ℕ) → (LeadsTo r other role → ⊥) →
+-- a new parent of a role changes no chain up to the role
+chain_up_to : (r : Roles) (role parent other n : ℕ) →
+    ((m : ℕ) → m < n → ancestor r other m ≡ Some role → ⊥) →
     ancestor (with_parent r role parent) other n ≡ ancestor r other n
 unfolding ancestor
-chain_past r role parent other zero apart = refl
-chain_past r role parent other (suc n) apart =
-    ap (parent_of (with_parent r role parent)) (chain_past r role parent other n apart)
+chain_up_to r role parent other zero none = refl
+chain_up_to r role parent other (suc n) none =
+    ap (parent_of (with_parent r role parent))
+    (chain_up_to r role parent other n (λ m h. none m (omega (arith, h))))
     ∙ by (ancestor r other n) refl
   where
     by : (o : Option ℕ) → ancestor r other n ≡ o →
         parent_of (with_parent r role parent) o ≡ parent_of r o
     by None is = refl
     by (Some k) is = elim (cases_eq k role) [
-      | inl same ↦ absurd (apart (n, is ∙ ap Some same))
+      | inl same ↦ absurd (none n (omega arith) (is ∙ ap Some same))
       | inr differs ↦ ap (λ b. cond b (Some parent) (r.parent k)) (ne_eqb k role differs)
     ]
 
@@ -514,7 +516,7 @@ pub others_allow_same : (r : Roles) (role parent other allowed : ℕ) →
 others_allow_same r role parent other allowed apart = by (may_inherit r role parent)
   where
     chain : (n : ℕ) → ancestor (with_parent r role parent) other n ≡ ancestor r other n
-    chain n = chain_past r role parent other n apart
+    chain n = chain_up_to r role parent other n (λ m h is. apart (m, is))
 
     by : (b : Bool) →
         Allows (cond b (with_parent r role parent) r) other allowed ↔ Allows r other allowed
@@ -549,3 +551,170 @@ inherit_gives r role parent allowed lesser done =
         | inr a ↦ allows_up after role parent allowed up (same.1 a)
       ],
     )
+
+-- the first n ancestors of a role have another role as the first one at some place, or do not have
+-- it
+first_place : (r : Roles) (role other n : ℕ) →
+    ((m : ℕ) × (m < n) × (ancestor r other m ≡ Some role)
+    × ((l : ℕ) → l < m → ancestor r other l ≡ Some role → ⊥))
+    ⊎ ((m : ℕ) → m < n → ancestor r other m ≡ Some role → ⊥)
+first_place r role other zero = inr (λ m h. absurd (omega (arith, h)))
+first_place r role other (suc n) = elim (first_place r role other n) [
+  | inl found ↦ inl (found.0, omega (arith, found.1), found.2, found.3)
+  | inr none ↦ by none (ancestor r other n) refl
+]
+  where
+    more : ((m : ℕ) → m < n → ancestor r other m ≡ Some role → ⊥) →
+        (ancestor r other n ≡ Some role → ⊥) → (m : ℕ) → m < suc n →
+        ancestor r other m ≡ Some role → ⊥
+    more none last m h is = elim (cases_lt m n) [
+      | inl before ↦ none m before is
+      | inr g ↦
+          let same : m ≡ n = omega (arith, h, g) in
+          last (sym (ap (ancestor r other) same) ∙ is)
+    ]
+
+    by : ((m : ℕ) → m < n → ancestor r other m ≡ Some role → ⊥) → (o : Option ℕ) →
+        ancestor r other n ≡ o →
+        ((m : ℕ) × (m < suc n) × (ancestor r other m ≡ Some role)
+        × ((l : ℕ) → l < m → ancestor r other l ≡ Some role → ⊥))
+        ⊎ ((m : ℕ) → m < suc n → ancestor r other m ≡ Some role → ⊥)
+    by none None is = inr (more none (λ e. absurd (cc)))
+    by none (Some k) is = elim (cases_eq k role) [
+      | inl same ↦ inl (n, omega arith, is ∙ ap Some same, none)
+      | inr differs ↦
+          inr (more none (λ e. differs (same_Some k role (sym is ∙ e))))
+    ]
+
+-- a role allows what its ancestors allow
+allows_along : (r : Roles) (other role permission m : ℕ) → ancestor r other m ≡ Some role →
+    Allows r role permission → Allows r other permission
+unfolding ancestor
+allows_along r other role permission zero is a =
+    subst (λ k. Allows r k permission) (sym (same_Some other role is)) a
+allows_along r other role permission (suc m) is a =
+    by (ancestor r other m) (λ k here. allows_along r other k permission m here) is
+  where
+    by : (o : Option ℕ) → ((k : ℕ) → o ≡ Some k → Allows r k permission → Allows r other permission)
+        → parent_of r o ≡ Some role → Allows r other permission
+    by None along up = absurd (cc)
+    by (Some k) along up = along k refl (allows_up r k role permission up a)
+
+-- what an ancestor of a role leads to is also an ancestor of a role on the chain before it
+later_place : (r : Roles) (other role m n : ℕ) → ancestor r other m ≡ Some role → m ≤ n →
+    (j : ℕ) × (ancestor r other n ≡ ancestor r role j)
+unfolding ancestor
+later_place r other role m zero is h =
+    let same : m ≡ zero = omega (arith, h) in
+    (zero, sym (ap (ancestor r other) same) ∙ is)
+later_place r other role m (suc n) is h = elim (cases_lt m (suc n)) [
+  | inl before ↦
+      let up = later_place r other role m n is (omega (arith, before)) in
+      (suc up.0, ap (parent_of r) up.1)
+  | inr g ↦
+      let same : m ≡ suc n = omega (arith, h, g) in
+      (zero, sym (ap (ancestor r other) same) ∙ is)
+]
+
+-- if a role allows a permission, its chain of parents was granted the permission up to another role,
+-- or leads to that role, which allows the permission
+up_to_or_past : (r : Roles) (role other permission : ℕ) → Allows r other permission →
+    AllowsUpTo r role other permission ⊎ ((m : ℕ) × (ancestor r other m ≡ Some role)
+    × ((l : ℕ) → l < m → ancestor r other l ≡ Some role → ⊥) × Allows r role permission)
+up_to_or_past r role other permission a = elim (first_place r role other a.0) [
+  | inr none ↦ inl (a.0, a.1, a.2, a.3, none)
+  | inl found ↦
+      let past = later_place r other role found.0 a.0 found.2 (omega (arith, found.1)) in
+      inr (found.0, found.2, found.3, (past.0, a.1, sym past.1 ∙ a.2, a.3))
+]
+
+-- a chain of parents leads to a role exactly if it does after that role is given a parent
+still_leads : (r : Roles) (role parent other : ℕ) → LeadsTo r other role →
+    (m : ℕ) × (ancestor (with_parent r role parent) other m ≡ Some role)
+still_leads r role parent other leads = elim (first_place r role other (suc leads.0)) [
+  | inl found ↦ (found.0, chain_up_to r role parent other found.0 found.3 ∙ found.2)
+  | inr none ↦ absurd (none leads.0 (omega arith) leads.1)
+]
+
+-- what a role allowed up to the role that is given a parent, it still allows
+up_to_stays : (r : Roles) (role parent other allowed : ℕ) → AllowsUpTo r role other allowed →
+    Allows (with_parent r role parent) other allowed
+up_to_stays r role parent other allowed a =
+    (a.0, a.1, chain_up_to r role parent other a.0 a.4 ∙ a.2, a.3)
+
+-- what each role allows after an `Inherit` that is done, as `InheritsReplaceWhatWasInherited`
+-- states
+pub inherit_replaces : (r : Roles) (role parent other allowed : ℕ) → HasLesserParents r →
+    answer_to r (Inherit role parent) ≡ Done →
+    Allows (roles_after r (Inherit role parent)) other allowed
+    ↔ (AllowsUpTo r role other allowed ⊎ (LeadsTo r other role × Allows r parent allowed))
+inherit_replaces r role parent other allowed lesser done =
+    by (may_inherit r role parent) done (inherit_gives r role parent allowed lesser done)
+  where
+    by : (b : Bool) → cond b Done Refused ≡ Done →
+        (Allows (cond b (with_parent r role parent) r) role allowed
+        ↔ ((r.granted role allowed ≡ true) ⊎ Allows r parent allowed)) →
+        Allows (cond b (with_parent r role parent) r) other allowed
+        ↔ (AllowsUpTo r role other allowed ⊎ (LeadsTo r other role × Allows r parent allowed))
+    by false e gives = absurd (cc)
+    by true e gives = (
+      λ a. elim (first_place r role other a.0) [
+        | inr none ↦ inl (
+          a.0,
+          a.1,
+          sym (chain_up_to r role parent other a.0 none) ∙ a.2,
+          a.3,
+          none,
+        )
+        | inl found ↦
+            let there : ancestor (with_parent r role parent) other found.0 ≡ Some role =
+            chain_up_to r role parent other found.0 found.3 ∙ found.2 in
+            let past = later_place (with_parent r role parent) other role found.0 a.0 there
+            (omega (arith, found.1)) in
+            elim (gives.0 (past.0, a.1, sym past.1 ∙ a.2, a.3)) [
+              | inl own ↦ inl (found.0, role, found.2, own, found.3)
+              | inr inherited ↦ inr ((found.0, found.2), inherited)
+            ]
+      ],
+      λ either. elim either [
+        | inl a ↦ up_to_stays r role parent other allowed a
+        | inr new ↦
+            let there = still_leads r role parent other new.0 in
+            allows_along (with_parent r role parent) other role allowed there.0 there.1
+            (gives.1 (inr new.1))
+      ],
+    )
+
+-- an `Inherit` gives only what the parent allowed, and takes only what its role allowed, as
+-- `InheritsChangeOnlyWhatIsInherited` states
+pub inherit_changes_only : (r : Roles) (role parent other allowed : ℕ) → HasLesserParents r →
+    let after = roles_after r (Inherit role parent) in
+    (Allows after other allowed →
+    Allows r other allowed ⊎ (LeadsTo r other role × Allows r parent allowed))
+    × (Allows r other allowed →
+    Allows after other allowed ⊎ (LeadsTo r other role × Allows r role allowed))
+inherit_changes_only r role parent other allowed lesser =
+    by (answer_to r (Inherit role parent)) refl
+  where
+    by : (answer : Answer) → answer_to r (Inherit role parent) ≡ answer →
+        let after = roles_after r (Inherit role parent) in
+        (Allows after other allowed →
+        Allows r other allowed ⊎ (LeadsTo r other role × Allows r parent allowed))
+        × (Allows r other allowed →
+        Allows after other allowed ⊎ (LeadsTo r other role × Allows r role allowed))
+    by Refused is =
+        let same = refused_keeps r (Inherit role parent) is in (
+          λ a. inl (subst (λ q. Allows q other allowed) same a),
+          λ a. inl (subst (λ q. Allows q other allowed) (sym same) a),
+        )
+    by Done is =
+        let exactly = inherit_replaces r role parent other allowed lesser is in (
+          λ a. elim (exactly.0 a) [
+            | inl up_to ↦ inl (up_to.0, up_to.1, up_to.2, up_to.3)
+            | inr new ↦ inr new
+          ],
+          λ a. elim (up_to_or_past r role other allowed a) [
+            | inl up_to ↦ inl (exactly.1 (inl up_to))
+            | inr past ↦ inr ((past.0, past.1), past.3)
+          ],
+        )

@@ -2,7 +2,7 @@
 use Rattle.std.specs.List.{list_any}
 use Rattle.std.specs.Option.{option_map}
 use Rattle.std.specs.Prelude.{◌≡◌, ℕ, suc, ◌+◌, ◌<◌, ◌≤◌, ◌↔◌, ◌⊎◌, Bool, true, false, ◌&&◌, ◌||◌, ◌==◌, Some, List, slice_get, take}
-use Rattle.bit_roles.specs.Roles.{Roles, ancestor, LeadsTo, Allows, HasLesserParents, answer_to, roles_after, request_answers, final_roles, bare_roles}
+use Rattle.bit_roles.specs.Roles.{Roles, ancestor, LeadsTo, Allows, AllowsUpTo, HasLesserParents, answer_to, roles_after, request_answers, final_roles, bare_roles}
 use Rattle.bit_roles.specs.declared.Request.{Request}
 use Rattle.bit_roles.specs.declared.Request.TheVariants.{Grant, Inherit}
 use Rattle.bit_roles.specs.declared.Answer.{Answer}
@@ -93,6 +93,30 @@ InheritsWhatTheParentAllowed =
     → answer_to r (Inherit role parent) ≡ Done
     → Allows (roles_after r (Inherit role parent)) role allowed
     ↔ ((r.granted role allowed ≡ true) ⊎ Allows r parent allowed)
+
+-- if each parent has a lesser number than its role, after an `Inherit` that is done each role allows
+-- what it allowed before by a chain of parents that does not go past the role that inherits, and,
+-- if its chain leads there, what the new parent allowed before
+abbrev pub InheritsReplaceWhatWasInherited : Type 0
+InheritsReplaceWhatWasInherited =
+    (r : Roles) (role parent other allowed : ℕ)
+    → HasLesserParents r
+    → answer_to r (Inherit role parent) ≡ Done
+    → Allows (roles_after r (Inherit role parent)) other allowed
+    ↔ (AllowsUpTo r role other allowed ⊎ (LeadsTo r other role × Allows r parent allowed))
+
+-- if each parent has a lesser number than its role, an `Inherit` gives a role only what the new
+-- parent allowed before, and takes from a role only what the role that inherits allowed before; and
+-- it does so only if a chain of parents leads from the one role to the other
+abbrev pub InheritsChangeOnlyWhatIsInherited : Type 0
+InheritsChangeOnlyWhatIsInherited =
+    (r : Roles) (role parent other allowed : ℕ)
+    → HasLesserParents r
+    → let after = roles_after r (Inherit role parent) in
+    (Allows after other allowed
+    → Allows r other allowed ⊎ (LeadsTo r other role × Allows r parent allowed))
+    × (Allows r other allowed
+    → Allows after other allowed ⊎ (LeadsTo r other role × Allows r role allowed))
 
 -- a new parent of a role changes nothing for a role that no chain of parents leads to it from
 abbrev pub InheritingChangesOnlyDescendants : Type 0

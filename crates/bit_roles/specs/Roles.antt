@@ -1,7 +1,7 @@
 -- The role machine: its state tells which permissions each role was granted and which parent the
 -- role has, and each request has an answer and a next state. Roles and permissions are numbers.
 use Rattle.std.specs.List.{fold, scan}
-use Rattle.std.specs.Prelude.{◌≡◌, ℕ, zero, suc, ◌<◌, Bool, true, false, ◌&&◌, ◌||◌, ◌==◌, nat_lt, if◌then◌else◌}
+use Rattle.std.specs.Prelude.{◌≡◌, ◌≢◌, ℕ, zero, suc, ◌<◌, Bool, true, false, ◌&&◌, ◌||◌, ◌==◌, nat_lt, if◌then◌else◌}
 use Rattle.std.specs.Prelude.{Option, Some, None, List, slice_get}
 use Rattle.bittle.specs.PlainSet.{PlainSet}
 use Rattle.bit_roles.specs.declared.Request.{Request}
@@ -35,6 +35,13 @@ LeadsTo r role other = (n : ℕ) × (ancestor r role n ≡ Some other)
 abbrev pub Allows : Roles → ℕ → ℕ → Type 0
 Allows r role permission =
     (n : ℕ) × (other : ℕ) × (ancestor r role n ≡ Some other) × (r.granted other permission ≡ true)
+
+-- the role itself, or a role that a chain of its parents leads to, was granted the permission, and
+-- the chain does not go past the role `last`
+abbrev pub AllowsUpTo : Roles → ℕ → ℕ → ℕ → Type 0
+AllowsUpTo r last role permission =
+    (n : ℕ) × (other : ℕ) × (ancestor r role n ≡ Some other) × (r.granted other permission ≡ true)
+    × ((m : ℕ) → m < n → ancestor r role m ≢ Some last)
 
 -- each parent has a lesser number than its role
 abbrev pub HasLesserParents : Roles → Type 0

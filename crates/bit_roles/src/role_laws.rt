@@ -10,6 +10,8 @@ ghost use Rattle.bit_roles.specs.RoleLaws.{AnswersAreOfTheirStates, AllowsOwnAnd
 ghost use Rattle.bit_roles.specs.RoleLaws.{NumbersStay, NothingIsAllowedAtFirst};
 ghost use Rattle.bit_roles.specs.RoleLaws.{GrantsGiveJustTheirPermission};
 ghost use Rattle.bit_roles.specs.RoleLaws.{InheritsWhatTheParentAllowed};
+ghost use Rattle.bit_roles.specs.RoleLaws.{InheritsReplaceWhatWasInherited};
+ghost use Rattle.bit_roles.specs.RoleLaws.{InheritsChangeOnlyWhatIsInherited};
 ghost use Rattle.bit_roles.specs.RoleLaws.{InheritingChangesOnlyDescendants};
 ghost use Rattle.bit_roles.specs.RoleLaws.{GrantsAreThoseAskedFor, GrantingTakesNothingAway};
 ghost use Rattle.bit_roles.specs.RoleLaws.{ParentsAreThoseLastGiven, ParentsStayIfNoneIsGiven};
@@ -69,6 +71,21 @@ pub fn grants_give_just_their_permission()
 /// number than its role: what the role was granted, and what its new parent allowed before.
 pub fn inherits_what_the_parent_allowed()
     ensures { InheritsWhatTheParentAllowed }
+{}
+
+/// States what each role allows after an `Inherit` that is done, if each parent has a lesser number
+/// than its role. A role allows what its chain of parents was granted up to the role that inherits.
+/// If the chain leads to that role, the role also allows what the new parent allowed before.
+pub fn inherits_replace_what_was_inherited()
+    ensures { InheritsReplaceWhatWasInherited }
+{}
+
+/// States that an `Inherit` gives roles only what the new parent allowed before, and takes from
+/// them only what the role that inherits allowed before. It changes only roles whose chain of
+/// parents leads to the role that inherits. The law supposes that each parent has a lesser number
+/// than its role.
+pub fn inherits_change_only_what_is_inherited()
+    ensures { InheritsChangeOnlyWhatIsInherited }
 {}
 
 /// States that an `Inherit` changes only what its role allows, and what the roles allow from which
