@@ -173,24 +173,6 @@ impl<B: BitsOwned, const N: usize> Roles<B, N> {
             self.new.granted self.new.parents in (other allowed : ℕ)
             → (LeadsTo before other role → ⊥)
             → Allows after other allowed ↔ Allows before other allowed }
-        ensures descendants { let before = roles_of N B.type_capacity
-            (set_in B.Shape B.Order.Endian) self.old.granted self.old.parents in
-            let after = roles_of N B.type_capacity (set_in B.Shape B.Order.Endian)
-            self.new.granted self.new.parents in (other allowed : ℕ) → IsOk result
-            → LeadsTo before other role → Allows before parent allowed
-            → Allows after other allowed }
-        ensures gains { let before = roles_of N B.type_capacity
-            (set_in B.Shape B.Order.Endian) self.old.granted self.old.parents in
-            let after = roles_of N B.type_capacity (set_in B.Shape B.Order.Endian)
-            self.new.granted self.new.parents in (other allowed : ℕ)
-            → Allows after other allowed → Allows before other allowed
-            ⊎ (LeadsTo before other role × Allows before parent allowed) }
-        ensures losses { let before = roles_of N B.type_capacity
-            (set_in B.Shape B.Order.Endian) self.old.granted self.old.parents in
-            let after = roles_of N B.type_capacity (set_in B.Shape B.Order.Endian)
-            self.new.granted self.new.parents in (other allowed : ℕ)
-            → Allows before other allowed → Allows after other allowed
-            ⊎ (LeadsTo before other role × Allows before role allowed) }
         ensures granted { self.new.granted ≡ self.old.granted }
         ensures answer { (if is_ok result then Answer.Done else Answer.Refused)
             ≡ answer_to (roles_of N B.type_capacity (set_in B.Shape B.Order.Endian)

@@ -1,8 +1,8 @@
-use Rattle.std.proofs.Common.{◌<◌, ◌⊎◌, length, inr, ap, sym, subst, ◌∙◌, arith}
+use Rattle.std.proofs.Common.{◌<◌, length, inr, ap, sym, subst, ◌∙◌, arith}
 use Rattle.bittle.specs.Values.{set_in}
-use Rattle.bit_roles.specs.Roles.{Roles, LeadsTo, Allows, roles_of}
+use Rattle.bit_roles.specs.Roles.{Allows, roles_of}
 use Rattle.bit_roles.specs.declared.Request.TheVariants.{Inherit}
-use Rattle.bit_roles.proofs.RoleLaws.{done_exactly, inherit_gives, inherit_replaces, inherit_changes_only, other_parents_keep, others_allow_same}
+use Rattle.bit_roles.proofs.RoleLaws.{done_exactly, inherit_gives, other_parents_keep, others_allow_same}
 use Rattle.bit_roles.proofs.Rows.{lesser_written, parent_written, row_inherits}
 use Rattle.bit_roles.proofs.Roles.inherit.Goals as goal
 
@@ -39,7 +39,7 @@ returns-clause-others g c other apart =
 
 pub returns-clause-allows : goal.returns-clause-allows
 returns-clause-allows g c allowed done was =
-    let roles : Roles = roles_of g.row.N g.B.Shape.type_capacity (set_in g.B.Shape g.B.Order.Endian)
+    let roles = roles_of g.row.N g.B.Shape.type_capacity (set_in g.B.Shape g.B.Order.Endian)
     c.args.self.now.granted c.args.self.now.parents in
     let is_done = (done_exactly roles (Inherit c.args.role c.args.parent)).1
     (omega arith, omega arith) in
@@ -49,7 +49,7 @@ returns-clause-allows g c allowed done was =
 
 pub returns-clause-allows_only : goal.returns-clause-allows_only
 returns-clause-allows_only g c allowed done is =
-    let roles : Roles = roles_of g.row.N g.B.Shape.type_capacity (set_in g.B.Shape g.B.Order.Endian)
+    let roles = roles_of g.row.N g.B.Shape.type_capacity (set_in g.B.Shape g.B.Order.Endian)
     c.args.self.now.granted c.args.self.now.parents in
     let is_done = (done_exactly roles (Inherit c.args.role c.args.parent)).1
     (omega arith, omega arith) in
@@ -63,28 +63,3 @@ returns-clause-others_allow g c other allowed apart =
       λ a. keep.0 (subst (λ r. Allows r other allowed) same a),
       λ a. subst (λ r. Allows r other allowed) (sym same) (keep.1 a),
     )
-
-pub returns-clause-descendants : goal.returns-clause-descendants
-returns-clause-descendants g c other allowed done leads was =
-    let roles : Roles = roles_of g.row.N g.B.Shape.type_capacity (set_in g.B.Shape g.B.Order.Endian)
-    c.args.self.now.granted c.args.self.now.parents in
-    let is_done = (done_exactly roles (Inherit c.args.role c.args.parent)).1
-    (omega arith, omega arith) in
-    let exactly = inherit_replaces roles c.args.role c.args.parent other allowed
-    c.args.self.now.lesser is_done
-    in subst (λ r. Allows r other allowed) (sym (returns-clause-roles g c))
-    (exactly.1 (inr (leads, was)))
-
-pub returns-clause-gains : goal.returns-clause-gains
-returns-clause-gains g c other allowed is =
-    (inherit_changes_only _ c.args.role c.args.parent other allowed c.args.self.now.lesser).0
-    (subst (λ r. Allows r other allowed) (returns-clause-roles g c) is)
-
-pub returns-clause-losses : goal.returns-clause-losses
-returns-clause-losses g c other allowed was =
-    let roles : Roles = roles_of g.row.N g.B.Shape.type_capacity (set_in g.B.Shape g.B.Order.Endian)
-    c.args.self.now.granted c.args.self.now.parents in
-    subst (λ r. Allows r other allowed ⊎ (LeadsTo roles other c.args.role
-    × Allows roles c.args.role allowed)) (sym (returns-clause-roles g c))
-    ((inherit_changes_only roles c.args.role c.args.parent other allowed
-    c.args.self.now.lesser).1 was)
