@@ -142,6 +142,18 @@ pub fn spawn_placed<B: BitsOwned>(world: &mut World<B, 2>) -> bool
     }
 }
 
+/// Spawns an entity if fewer entities are alive than the capacity allows, and returns whether one
+/// was spawned. The result is always `true`, also if no number is free.
+pub fn spawn_if_room<B: BitsOwned, const N: usize>(world: &mut World<B, N>) -> bool
+    ensures { result ≡ true }
+{
+    if world.len() < world.capacity() {
+        world.spawn().is_some()
+    } else {
+        true
+    }
+}
+
 /// Spawns two entities, and returns them. They differ. Returns `None` if fewer than two numbers are
 /// free.
 pub fn spawn_two<B: BitsOwned, const N: usize>(world: &mut World<B, N>) -> Option<(u32, u32)>
