@@ -138,8 +138,8 @@ total count (event ∷ events) [] = 0
 total count (event ∷ events) (answer ∷ answers) =
     count event answer + total count events answers
 
--- the number of entities alive after a list of events, plus the number that the list removed, is the
--- number alive before the list, plus the number that the list spawned
+-- the number of entities alive after a list of events, plus the number that the list removed, is
+-- the number alive before the list, plus the number that the list spawned
 abbrev pub LivingAreCounted : Type 0
 LivingAreCounted =
     (w : World) (events : List Event)

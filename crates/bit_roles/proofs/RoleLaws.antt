@@ -552,8 +552,7 @@ inherit_gives r role parent allowed lesser done =
       ],
     )
 
--- the first n ancestors of a role have another role as the first one at some place, or do not have
--- it
+-- the first n roles of a chain do not have the role `role`, or have it at a first place
 first_place : (r : Roles) (role other n : ℕ) →
     ((m : ℕ) × (m < n) × (ancestor r other m ≡ Some role)
     × ((l : ℕ) → l < m → ancestor r other l ≡ Some role → ⊥))
@@ -600,7 +599,7 @@ allows_along r other role permission (suc m) is a =
     by None along up = absurd (cc)
     by (Some k) along up = along k refl (allows_up r k role permission up a)
 
--- what an ancestor of a role leads to is also an ancestor of a role on the chain before it
+-- if a chain comes to a role, each later role of the chain is an ancestor of that role
 later_place : (r : Roles) (other role m n : ℕ) → ancestor r other m ≡ Some role → m ≤ n →
     (j : ℕ) × (ancestor r other n ≡ ancestor r role j)
 unfolding ancestor
@@ -616,8 +615,8 @@ later_place r other role m (suc n) is h = elim (cases_lt m (suc n)) [
       (zero, sym (ap (ancestor r other) same) ∙ is)
 ]
 
--- if a role allows a permission, its chain of parents was granted the permission up to another role,
--- or leads to that role, which allows the permission
+-- if a role allows a permission, a role of its chain up to `role` was granted the permission, or
+-- the chain leads to `role`, which allows the permission
 up_to_or_past : (r : Roles) (role other permission : ℕ) → Allows r other permission →
     AllowsUpTo r role other permission ⊎ ((m : ℕ) × (ancestor r other m ≡ Some role)
     × ((l : ℕ) → l < m → ancestor r other l ≡ Some role → ⊥) × Allows r role permission)
@@ -628,7 +627,7 @@ up_to_or_past r role other permission a = elim (first_place r role other a.0) [
       inr (found.0, found.2, found.3, (past.0, a.1, sym past.1 ∙ a.2, a.3))
 ]
 
--- a chain of parents leads to a role exactly if it does after that role is given a parent
+-- a chain of parents that leads to a role still does so after that role is given a parent
 still_leads : (r : Roles) (role parent other : ℕ) → LeadsTo r other role →
     (m : ℕ) × (ancestor (with_parent r role parent) other m ≡ Some role)
 still_leads r role parent other leads = elim (first_place r role other (suc leads.0)) [
