@@ -1,7 +1,7 @@
 -- Laws of the page machine, for all requests and all lists of requests.
 use Rattle.std.specs.List.{filter, list_any, IsDistinct}
 use Rattle.std.specs.Option.{option_map}
-use Rattle.std.specs.Prelude.{◌≡◌, ℕ, zero, suc, ◌+◌, ◌<◌, ◌↔◌, ◌⊎◌, Bool, true, false, not, ◌&&◌, ◌||◌, ◌==◌, Some, List, [], ◌∷◌, ◌++◌, slice_get, take}
+use Rattle.std.specs.Prelude.{◌≡◌, ℕ, zero, suc, ◌+◌, ◌<◌, ◌≤◌, ◌↔◌, ◌⊎◌, Bool, true, false, not, ◌&&◌, ◌||◌, ◌==◌, Some, List, [], ◌∷◌, ◌++◌, slice_get, take}
 use Rattle.bittle.specs.PlainSet.{PlainSet, complement, is_in_span, size}
 use Rattle.bittle_ext.specs.Runs.{IsFirstRun, IsRun}
 use Rattle.bit_pages.specs.Pages.{is_taken, is_run_taken, answer_to, state_after, request_answers, final_state}
@@ -64,6 +64,15 @@ GivenExactlyIfTaken =
     ↔ (((page : ℕ) × (request ≡ GiveBack page) × (is_taken s page ≡ true))
     ⊎ ((first : ℕ) × (length : ℕ) × (request ≡ GiveBackRun first length) × IsRun s length first))
 
+-- NotTaken is answered exactly if pages are given back and one of them is not taken
+abbrev pub NotTakenExactlyIfNotTaken : Type 0
+NotTakenExactlyIfNotTaken =
+    (s : PlainSet) (request : Request)
+    → (answer_to s request ≡ NotTaken)
+    ↔ (((page : ℕ) × (request ≡ GiveBack page) × (is_taken s page ≡ false))
+    ⊎ ((first : ℕ) × (length : ℕ) × (request ≡ GiveBackRun first length)
+    × (IsRun s length first → ⊥)))
+
 -- each request of a list is answered in the state that the requests before it leave, and there is
 -- no other answer
 abbrev pub AnswersAreOfTheirStates : Type 0
@@ -79,6 +88,38 @@ length_of (TakeAt page) = 1
 length_of (GiveBack page) = 1
 length_of (TakeRun length) = length
 length_of (GiveBackRun first length) = length
+
+-- whether an answer refuses the request
+abbrev pub is_refused : Answer → Bool
+is_refused (Page page) = false
+is_refused Full = true
+is_refused NotFree = true
+is_refused Given = false
+is_refused NotTaken = true
+is_refused (Run first) = false
+is_refused NoRun = true
+
+-- a request changes nothing exactly if it is refused, or if it takes or gives back a run of length 0
+abbrev pub UnchangedExactlyIfRefused : Type 0
+UnchangedExactlyIfRefused =
+    (s : PlainSet) (request : Request)
+    → (state_after s request ≡ s)
+    ↔ ((is_refused (answer_to s request) ≡ true) ⊎ (length_of request ≡ 0))
+
+-- no list of requests changes how many pages there are
+abbrev pub PagesStay : Type 0
+PagesStay = (s : PlainSet) (requests : List Request) → (final_state s requests).capacity ≡ s.capacity
+
+-- in every list, each page that is answered is below the number of pages, and each run that is
+-- answered ends at or below it
+abbrev pub AnswersAreBelow : Type 0
+AnswersAreBelow =
+    (s : PlainSet) (requests : List Request) (i : ℕ)
+    → ((page : ℕ) → slice_get (request_answers s requests) i ≡ Some (Page page)
+    → page < s.capacity)
+    × ((first length : ℕ) → slice_get requests i ≡ Some (TakeRun length)
+    → slice_get (request_answers s requests) i ≡ Some (Run first)
+    → first + length ≤ s.capacity)
 
 -- how many pages an answer to a request hands out
 abbrev pub pages_handed_out : Request → Answer → ℕ

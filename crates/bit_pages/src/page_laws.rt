@@ -8,7 +8,8 @@ ghost use Rattle.bit_pages.specs.Pages.{answer_to, state_after, request_answers,
 ghost use Rattle.bit_pages.specs.PageLaws.{PagesAreFree, FullExactlyIfAllAreTaken};
 ghost use Rattle.bit_pages.specs.PageLaws.{NotFreeExactlyIfNotFree};
 ghost use Rattle.bit_pages.specs.PageLaws.{RunsAreFirst, NoRunExactlyIfNoneIsFree};
-ghost use Rattle.bit_pages.specs.PageLaws.{GivenExactlyIfTaken};
+ghost use Rattle.bit_pages.specs.PageLaws.{GivenExactlyIfTaken, NotTakenExactlyIfNotTaken};
+ghost use Rattle.bit_pages.specs.PageLaws.{UnchangedExactlyIfRefused, PagesStay, AnswersAreBelow};
 ghost use Rattle.bit_pages.specs.PageLaws.{PagesComeBackBetween, TakenPagesComeBackFirst};
 ghost use Rattle.bit_pages.specs.PageLaws.{AnswersAreOfTheirStates, PagesAreCounted};
 ghost use Rattle.bit_pages.specs.PageLaws.{PagesAreOutstanding};
@@ -44,6 +45,28 @@ pub fn no_run_exactly_if_none_is_free()
 /// States that `Given` is answered exactly if pages are given back and each of them is taken.
 pub fn given_exactly_if_taken()
     ensures { GivenExactlyIfTaken }
+{}
+
+/// States that `NotTaken` is answered exactly if pages are given back and one of them is not taken.
+pub fn not_taken_exactly_if_not_taken()
+    ensures { NotTakenExactlyIfNotTaken }
+{}
+
+/// States that a request changes nothing exactly if its answer is `Full`, `NotFree`, `NoRun` or
+/// `NotTaken`, or if it takes or gives back a run of length 0.
+pub fn unchanged_exactly_if_refused()
+    ensures { UnchangedExactlyIfRefused }
+{}
+
+/// States that no list of requests changes how many pages there are.
+pub fn pages_stay()
+    ensures { PagesStay }
+{}
+
+/// States that in every list, each page that is answered is below the number of pages, and each run
+/// that is answered ends at or below it.
+pub fn answers_are_below()
+    ensures { AnswersAreBelow }
 {}
 
 /// States that in every list, request `i` is answered in the state that the earlier requests leave,
