@@ -43,7 +43,7 @@ run_is_below s request first n asked e =
     omega (arith, same, end)
 
 -- each page of a list of answers is below the number of pages
-pages_are_below : (s : PlainSet) (requests : List Request) (i page : ℕ) →
+pub pages_are_below : (s : PlainSet) (requests : List Request) (i page : ℕ) →
     slice_get (request_answers s requests) i ≡ Some (answer.Page page) → page < s.capacity
 unfolding request_answers
 pages_are_below s [] i page e = absurd (cc)
@@ -52,7 +52,7 @@ pages_are_below s (request ∷ requests) (suc i) page e =
     omega (arith, (step s request).capacity, pages_are_below (state_after s request) requests i page e)
 
 -- each run of a list of answers ends at or below the number of pages
-runs_are_below : (s : PlainSet) (requests : List Request) (i first n : ℕ) →
+pub runs_are_below : (s : PlainSet) (requests : List Request) (i first n : ℕ) →
     slice_get requests i ≡ Some (TakeRun n) →
     slice_get (request_answers s requests) i ≡ Some (answer.Run first) → first + n ≤ s.capacity
 unfolding request_answers

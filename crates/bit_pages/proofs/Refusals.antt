@@ -129,8 +129,13 @@ not_taken_is s (TakeRun n) = (λ e. absurd (run_is_taken (first_free_run s n) e)
     none (inl e) = let kind = e.1 in absurd (cc)
     none (inr e) = let kind = e.2 in absurd (cc)
 not_taken_is s (GiveBackRun f n) = (
-  λ e. inr (f, n, refl, λ run. true≢false (sym (taken_run s f n run)
-      ∙ given_is_false (is_run_taken s f n) e)),
+  λ e. inr (
+    f,
+    n,
+    refl,
+    λ run. true≢false (sym (taken_run s f n run)
+        ∙ given_is_false (is_run_taken s f n) e),
+  ),
   found,
 )
   where

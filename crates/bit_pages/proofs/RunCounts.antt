@@ -1,14 +1,15 @@
 -- The map after a run of pages is taken or given back: which pages are taken then, and how many.
-use Rattle.std.proofs.Common.{◌≡◌, ℕ, ◌+◌, ◌≤◌, Bool, true, false, not, refl, sym, ap, ◌∙◌, arith}
+use Rattle.std.proofs.Common.{◌≡◌, ℕ, ◌+◌, ◌≤◌, Bool, true, false, not, ◌&&◌, cond, nat_lt, refl, sym, ap, ◌∙◌, arith}
 use Rattle.std.specs.Prelude.{◌↔◌, IsTrue, MatchBool}
 use Rattle.std.proofs.lemmas.Bool.{true≢false}
-use Rattle.bittle.specs.PlainSet.{PlainSet, complement, size, with_span, without_span}
+use Rattle.bittle.specs.PlainSet.{PlainSet, complement, has_changed, is_in_span, size, with_span, with_span_changed, without_span}
 use Rattle.bittle.specs.Searches.{NoneIn}
 use Rattle.bittle.proofs.CallerSets.{complement_within}
 use Rattle.bittle_bits.proofs.Spans.{inside_span, outside_span}
 use Rattle.bittle_ext.specs.RangeMembers.{HasAllIn, HasSomeIn}
 use Rattle.bittle_ext.specs.Runs.{IsRun}
 use Rattle.bittle_ext.proofs.RunCounts.{count_run_more}
+use Rattle.bit_pages.specs.Pages.{is_taken}
 
 module _ (s : PlainSet) (n first : ℕ) where
   -- after a run was taken, each of its pages is taken
@@ -25,6 +26,14 @@ module _ (s : PlainSet) (n first : ℕ) where
       count_run_more s.capacity first n (without_span s first (first + n)).has s.has run.0
       (λ k p q. inside_span (λ _. false) s first (first + n) k p q) run.1
       (λ k out. sym (outside_span (λ _. false) s first (first + n) k out))
+
+-- a page outside a run stays as it was when the run is taken or given back
+pub others_stay : (change : Bool → Bool) (s t : PlainSet) (first end page : ℕ) →
+    t ≡ with_span_changed change s first end → is_in_span first end page ≡ false →
+    is_taken t page ≡ is_taken s page
+unfolding has_changed
+others_stay change s t first end page after out = ap (λ u. is_taken u page) after
+    ∙ ap (λ b. nat_lt page s.capacity && cond b (change (s.has page)) (s.has page)) out
 
 -- a test of each page up to the end of a run tells whether the run is taken
 pub all_taken : (s : PlainSet) (n first end : ℕ) (b : Bool) → end ≡ first + n →

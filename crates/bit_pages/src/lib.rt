@@ -3,10 +3,11 @@
 
 ghost use Rattle.std.specs.Option.{is_some};
 ghost use Rattle.std.specs.Prelude.{◌≡◌, ◌≢◌, ℕ, ◌+◌, ◌-◌, ◌<◌, ◌≤◌, ◌↔◌, cond, length, true};
-ghost use Rattle.std.specs.Prelude.{false};
+ghost use Rattle.std.specs.Prelude.{false, slice_index_or};
 ghost use Rattle.std.specs.Prelude.{IfSome, IsTrue, IsOk, MatchOption, Some, is_ok};
 ghost use Rattle.bittle.specs.Comparison.{AreSame};
-ghost use Rattle.bittle.specs.PlainSet.{complement, empty_set, size, with_span, without_span};
+ghost use Rattle.bittle.specs.PlainSet.{complement, empty_set, is_in_span, size, with_span};
+ghost use Rattle.bittle.specs.PlainSet.{without_span};
 ghost use Rattle.bittle.specs.Searches.{NoneIn};
 ghost use Rattle.bittle.specs.Shapes.{Fits};
 ghost use Rattle.bittle.specs.Values.{set_in};
@@ -94,7 +95,8 @@ impl<B: BitsOwned> Pages<B> {
     /// checks this. With capacity 0 there is no page.
     pub fn new() -> Pages<B>
         requires { IsTrue B.indexable }
-        ensures { set_in B.Shape B.Order.Endian result.map ≡ empty_set B.type_capacity }
+        ensures set { set_in B.Shape B.Order.Endian result.map ≡ empty_set B.type_capacity }
+        ensures count { size (set_in B.Shape B.Order.Endian result.map) ≡ 0 }
     {
         Pages::with_taken(B::zeros())
     }
@@ -204,6 +206,8 @@ impl<B: BitsOwned> Pages<B> {
             ≡ is_taken (set_in B.Shape B.Order.Endian self.old.map) other }
         ensures pages { set_in B.Shape B.Order.Endian self.new.map
             ≡ state_after (set_in B.Shape B.Order.Endian self.old.map) (Request.GiveBack page) }
+        ensures whole { is_ok result
+            ≡ is_taken (set_in B.Shape B.Order.Endian self.old.map) page }
     {
         if !self.is_taken(page) {
             return Err(NotTaken);
@@ -230,6 +234,10 @@ impl<B: BitsOwned> Pages<B> {
             (λ first. IsRun (set_in B.Shape B.Order.Endian self.new.map) length first) }
         ensures count { size (set_in B.Shape B.Order.Endian self.new.map)
             ≡ size (set_in B.Shape B.Order.Endian self.old.map) + cond (is_some result) length 0 }
+        ensures others { (page : ℕ)
+            → IfSome result (λ first. is_in_span first (first + length) page ≡ false)
+            → is_taken (set_in B.Shape B.Order.Endian self.new.map) page
+            ≡ is_taken (set_in B.Shape B.Order.Endian self.old.map) page }
         ensures pages { let before = set_in B.Shape B.Order.Endian self.old.map in
             let after = set_in B.Shape B.Order.Endian self.new.map in
             MatchOption result
@@ -258,6 +266,9 @@ impl<B: BitsOwned> Pages<B> {
             → NoneIn (set_in B.Shape B.Order.Endian self.new.map) first (first + length) }
         ensures count { size (set_in B.Shape B.Order.Endian self.old.map)
             ≡ size (set_in B.Shape B.Order.Endian self.new.map) + cond (is_ok result) length 0 }
+        ensures others { (page : ℕ) → is_in_span first (first + length) page ≡ false
+            → is_taken (set_in B.Shape B.Order.Endian self.new.map) page
+            ≡ is_taken (set_in B.Shape B.Order.Endian self.old.map) page }
         ensures pages { let before = set_in B.Shape B.Order.Endian self.old.map in
             set_in B.Shape B.Order.Endian self.new.map
             ≡ cond (is_ok result) (without_span before first (first + length)) before }
@@ -278,8 +289,10 @@ impl<B: BitsOwned> Pages<B> {
     /// Returns whether each of the `length` numbers from `first` on is a page that is taken. With
     /// `length` 0 it returns `true` exactly if `first` is at most the number of pages.
     pub fn is_run_taken(&self, first: u32, length: u32) -> bool
-        ensures { IsTrue result
+        ensures taken { IsTrue result
             ↔ IsRun (set_in B.Shape B.Order.Endian self.now.map) length first }
+        ensures whole { result
+            ≡ is_run_taken (set_in B.Shape B.Order.Endian self.now.map) first length }
     {
         let Some(end) = first.checked_add(length) else {
             return false;
@@ -364,11 +377,19 @@ impl<B: BitsOwned> Pages<B> {
     }
 
     /// Serves the requests in their order, and writes an answer to each. `answers` has to be as
-    /// long as `requests`.
+    /// long as `requests`. Each page that is answered is below the number of pages, and each run
+    /// that is answered ends at or below it.
     pub fn serve(&mut self, requests: &[Request], answers: &mut [Answer])
         requires { length answers.old ≡ length requests.now }
         ensures answers { answers.new
             ≡ request_answers (set_in B.Shape B.Order.Endian self.old.map) requests.now }
+        ensures below { (i page : ℕ) (d : Answer) → i < length answers.new
+            → slice_index_or answers.new i d ≡ Answer.Page page → page < B.type_capacity }
+        ensures within { (i first n : ℕ) (d : Request) (e : Answer)
+            → i < length answers.new
+            → slice_index_or requests.now i d ≡ Request.TakeRun n
+            → slice_index_or answers.new i e ≡ Answer.Run first
+            → first + n ≤ B.type_capacity }
         ensures pages { set_in B.Shape B.Order.Endian self.new.map
             ≡ final_state (set_in B.Shape B.Order.Endian self.old.map) requests.now }
     {

@@ -1,21 +1,20 @@
-use Rattle.std.proofs.Common.{◌+◌, cond, sym, ap, ◌∙◌, subst, arith}
+use Rattle.std.proofs.Common.{false, ◌+◌, cond, sym, ap, ◌∙◌, subst, arith}
 use Rattle.bittle.specs.PlainSet.{PlainSet, size, without_span}
 use Rattle.bittle.specs.Searches.{NoneIn}
 use Rattle.bittle.specs.Values.{set_in}
-use Rattle.bit_pages.proofs.FreeRuns.{run_answer}
-use Rattle.bit_pages.proofs.RunCounts.{given_counts, run_is_given}
+use Rattle.bit_pages.proofs.RunCounts.{given_counts, others_stay, run_is_given}
 use Rattle.bit_pages.proofs.Pages.give_back_run.Goals as goal
 
 pub overflow_sub-self : goal.overflow_sub-self
 overflow_sub-self g c =
     let old : PlainSet = set_in g.B.Shape g.B.Order.Endian c.args.self.now.map in
-    let run = c.is_run_taken.ensures.0 c.if-not-is_run_taken.false in
+    let run = c.is_run_taken.ensures.taken.0 c.if-not-is_run_taken.false in
     omega (arith, given_counts old c.args.length c.args.first run, c.args.self.now.counted)
 
 pub invariant_of-self : goal.invariant_of-self
 invariant_of-self g c =
     let old : PlainSet = set_in g.B.Shape g.B.Order.Endian c.args.self.now.map in
-    let run = c.is_run_taken.ensures.0 c.if-not-is_run_taken.false in
+    let run = c.is_run_taken.ensures.taken.0 c.if-not-is_run_taken.false in
     record {
       fits = c.args.self.now.fits;
       counted = omega (
@@ -35,37 +34,36 @@ returns-clause-free g c =
 pub returns-clause-count : goal.returns-clause-count
 returns-clause-count g c =
     let old : PlainSet = set_in g.B.Shape g.B.Order.Endian c.args.self.now.map in
-    let run = c.is_run_taken.ensures.0 c.if-not-is_run_taken.false in
+    let run = c.is_run_taken.ensures.taken.0 c.if-not-is_run_taken.false in
     given_counts old c.args.length c.args.first run
     ∙ sym (ap (λ s. size s + c.args.length) c.clear_range.ensures.set)
+
+pub returns-clause-others : goal.returns-clause-others
+returns-clause-others g c page out =
+    let old : PlainSet = set_in g.B.Shape g.B.Order.Endian c.args.self.now.map in
+    let new : PlainSet = set_in g.B.Shape g.B.Order.Endian c.clear_range.new.self in
+    others_stay (λ _. false) old new c.args.first (c.args.first + c.args.length) page
+    c.clear_range.ensures.set out
 
 pub returns-then-not-is_run_taken-clause-whole : goal.returns-then-not-is_run_taken-clause-whole
 returns-then-not-is_run_taken-clause-whole g c =
     let old : PlainSet = set_in g.B.Shape g.B.Order.Endian c.args.self.now.map in
-    let answer = run_answer old c.args.first c.args.length c.is_run_taken.result
-    c.is_run_taken.ensures.0 c.is_run_taken.ensures.1 in
-    sym c.if-not-is_run_taken.true ∙ answer
+    sym c.if-not-is_run_taken.true ∙ c.is_run_taken.ensures.whole
 
 pub returns-then-not-is_run_taken-clause-state : goal.returns-then-not-is_run_taken-clause-state
 returns-then-not-is_run_taken-clause-state g c =
     let old : PlainSet = set_in g.B.Shape g.B.Order.Endian c.args.self.now.map in
-    let answer = run_answer old c.args.first c.args.length c.is_run_taken.result
-    c.is_run_taken.ensures.0 c.is_run_taken.ensures.1 in
     ap (λ b. cond b (without_span old c.args.first (c.args.first + c.args.length)) old)
-    (sym c.if-not-is_run_taken.true ∙ answer)
+    (sym c.if-not-is_run_taken.true ∙ c.is_run_taken.ensures.whole)
 
 pub returns-clause-whole : goal.returns-clause-whole
 returns-clause-whole g c =
     let old : PlainSet = set_in g.B.Shape g.B.Order.Endian c.args.self.now.map in
-    let answer = run_answer old c.args.first c.args.length c.is_run_taken.result
-    c.is_run_taken.ensures.0 c.is_run_taken.ensures.1 in
-    sym c.if-not-is_run_taken.false ∙ answer
+    sym c.if-not-is_run_taken.false ∙ c.is_run_taken.ensures.whole
 
 pub returns-clause-state : goal.returns-clause-state
 returns-clause-state g c =
     let old : PlainSet = set_in g.B.Shape g.B.Order.Endian c.args.self.now.map in
-    let answer = run_answer old c.args.first c.args.length c.is_run_taken.result
-    c.is_run_taken.ensures.0 c.is_run_taken.ensures.1 in
     c.clear_range.ensures.set
     ∙ ap (λ b. cond b (without_span old c.args.first (c.args.first + c.args.length)) old)
-    (sym c.if-not-is_run_taken.false ∙ answer)
+    (sym c.if-not-is_run_taken.false ∙ c.is_run_taken.ensures.whole)

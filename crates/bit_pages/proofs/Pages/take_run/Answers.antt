@@ -1,11 +1,11 @@
-use Rattle.std.proofs.Common.{◌≡◌, ◌+◌, Some, None, sym, ap, ◌∙◌, subst, arith}
+use Rattle.std.proofs.Common.{◌≡◌, ◌+◌, true, Some, None, sym, ap, ◌∙◌, subst, arith}
 use Rattle.bittle.specs.PlainSet.{PlainSet, size}
 use Rattle.bittle.specs.Values.{set_in}
 use Rattle.bittle.proofs.CallerSets.{size_at_most}
 use Rattle.bittle_ext.specs.Runs.{IsRun}
 use Rattle.bittle_ext.proofs.RunCounts.{run_is_unset}
 use Rattle.bit_pages.proofs.FreeRuns.{first_run_is, run_state}
-use Rattle.bit_pages.proofs.RunCounts.{run_is_taken}
+use Rattle.bit_pages.proofs.RunCounts.{others_stay, run_is_taken}
 use Rattle.bit_pages.proofs.Pages.take_run.Goals as goal
 
 pub overflow_add-self : goal.overflow_add-self
@@ -33,6 +33,13 @@ returns-clause-taken g c =
     let old : PlainSet = set_in g.B.Shape g.B.Order.Endian c.args.self.now.map in
     subst (λ s. IsRun s c.args.length c.in_ok-first.first) (sym c.in_ok-first.ensures.set)
     (run_is_taken old c.args.length c.in_ok-first.first c.in_ok-first.ensures.first.1)
+
+pub returns-clause-others : goal.returns-clause-others
+returns-clause-others g c page out =
+    let old : PlainSet = set_in g.B.Shape g.B.Order.Endian c.args.self.now.map in
+    let new : PlainSet = set_in g.B.Shape g.B.Order.Endian c.take_first_zero_run.new.self in
+    others_stay (λ _. true) old new c.in_ok-first.first (c.in_ok-first.first + c.args.length) page
+    c.in_ok-first.ensures.set out
 
 pub returns-in_err-first-clause-first : goal.returns-in_err-first-clause-first
 returns-in_err-first-clause-first g c =
