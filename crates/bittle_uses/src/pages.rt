@@ -1,11 +1,12 @@
 //! Callers of an allocator of pages. What one call promises is what the next call requires. No
 //! caller has a proof file.
 
-ghost use Rattle.std.specs.Prelude.{◌≡◌, ◌≢◌, ◌+◌, ◌-◌, ◌<◌, IfSome, IsTrue, MatchOption, true, length};
+ghost use Rattle.std.specs.Prelude.{◌≡◌, ◌≢◌, ◌+◌, ◌-◌, ◌<◌, ◌≤◌, IfSome, IsTrue, MatchOption};
+ghost use Rattle.std.specs.Prelude.{Some, false, length, true};
 ghost use Rattle.std.specs.Prelude.{if◌then◌else◌, map, slice_set, [], ◌∷◌, List};
-ghost use Rattle.bit_histories.specs.Histories.{IsHistory};
-ghost use Rattle.bit_pages.specs.PageLaws.{pages_back, pages_handed_out, total};
-ghost use Rattle.bit_pages.specs.Pages.{answer_to, state_after, is_taken, least_free};
+ghost use Rattle.bit_histories.specs.Histories.{IsCall, IsHistory};
+ghost use Rattle.bit_pages.specs.PageLaws.{is_refused, pages_back, pages_handed_out, total};
+ghost use Rattle.bit_pages.specs.Pages.{answer_to, state_after, is_run_taken, is_taken, least_free};
 ghost use Rattle.bit_pages.specs.Pages.{page_or_full, run_or_none};
 ghost use Rattle.bittle.specs.BitPatterns.{bit_set};
 ghost use Rattle.bittle.specs.Values.{set_in};
@@ -53,6 +54,14 @@ pub fn borrow_page<B: BitsOwned>(pages: &mut Pages<B>) -> bool
         Some(page) => pages.give_back(page).is_ok(),
         None => true,
     }
+}
+
+/// Gives a page back, and returns whether it was taken. If it was not, no page changes.
+pub fn give_back_or_keep<B: BitsOwned>(pages: &mut Pages<B>, page: u32) -> bool
+    ensures { result ≡ false → set_in B.Shape B.Order.Endian pages.new.map
+        ≡ set_in B.Shape B.Order.Endian pages.old.map }
+{
+    pages.give_back(page).is_ok()
 }
 
 /// Takes a page, and returns whether it is taken afterwards. The result is always `true`, also if
@@ -135,6 +144,27 @@ pub fn own(pages: &Pages<u8>, owners: &mut [u32; 8], page: u32, owner: u32)
     }
 }
 
+/// Frees a page, and writes 0 to its entry in `owners`, if the page is taken.
+pub fn disown(pages: &mut Pages<u8>, owners: &mut [u32; 8], page: u32)
+    ensures { owners.new ≡ if is_taken (bit_set 8 pages.old.map) page
+        then slice_set owners.old page 0 else owners.old }
+{
+    if pages.give_back(page).is_ok() {
+        owners[page as usize] = 0;
+    }
+}
+
+/// Writes `length` to the entry of the first page of a run in `lengths`, if each page of the run is
+/// taken. A run of length 0 may begin right after the last page.
+pub fn note_run(pages: &Pages<u8>, lengths: &mut [u32; 9], first: u32, length: u32)
+    ensures { lengths.new ≡ if is_run_taken (bit_set 8 pages.now.map) first length
+        then slice_set lengths.old first length else lengths.old }
+{
+    if pages.is_run_taken(first, length) {
+        lengths[first as usize] = length;
+    }
+}
+
 /// Takes a page, writes `owner` to its entry of `owners`, and returns the page. Returns `None` if
 /// no page is free.
 pub fn take_for(pages: &mut Pages<u8>, owners: &mut [u32; 8], owner: u32) -> Option<u32>
@@ -173,6 +203,37 @@ pub fn count_free(pages: &Pages<u8>) -> u32
     8 - pages.taken()
 }
 
+/// Counts the pages of a map that are taken.
+pub fn count_of_map<B: BitsOwned>(map: B) -> u32
+    requires { IsTrue B.indexable }
+    ensures { result ≡ size (set_in B.Shape B.Order.Endian map) }
+{
+    Pages::with_taken(map).taken()
+}
+
+/// Counts the taken pages of a new allocator. The result is always 0.
+pub fn count_of_new<B: BitsOwned>() -> u32
+    requires { IsTrue B.indexable }
+    ensures { result ≡ 0 }
+{
+    Pages::<B>::new().taken()
+}
+
+/// Returns whether the free pages and the taken pages are all pages. The result is always `true`.
+pub fn counts_add_up<B: BitsOwned>(pages: &Pages<B>) -> bool
+    ensures { result ≡ true }
+{
+    pages.free() + pages.taken() == pages.pages()
+}
+
+/// Returns whether a page of both allocators is taken in both or in neither. If the allocators
+/// have the same pages taken, the result is `true`.
+pub fn same_page<B: BitsOwned, C: BitsOwned>(one: &Pages<B>, other: &Pages<C>, page: u32) -> bool
+    ensures { page < B.type_capacity → page < C.type_capacity → result ≡ true }
+{
+    !one.same_pages(other) || one.is_taken(page) == other.is_taken(page)
+}
+
 /// Takes a page, and returns how many pages are taken afterwards, or `None` if no page is free.
 pub fn take_and_count<B: BitsOwned>(pages: &mut Pages<B>) -> Option<u32>
     ensures { IfSome result (λ count.
@@ -191,6 +252,75 @@ pub fn borrow_run<B: BitsOwned>(pages: &mut Pages<B>, length: u32) -> bool
         Some(first) => pages.give_back_run(first, length).is_ok(),
         None => true,
     }
+}
+
+/// Takes a run of pages, and returns whether the page `other`, which was taken before, still is.
+/// The result is always `true`, also if `other` was not taken before.
+pub fn take_run_and_ask_another<B: BitsOwned>(pages: &mut Pages<B>, length: u32, other: u32) -> bool
+    ensures { result ≡ true }
+{
+    if !pages.is_taken(other) {
+        return true;
+    }
+    let _first = pages.take_run(length);
+    pages.is_taken(other)
+}
+
+/// Takes two runs of pages, and returns whether each page of the first run is still taken. The
+/// result is always `true`, also if no such runs are free.
+pub fn take_two_runs<B: BitsOwned>(pages: &mut Pages<B>, length: u32, other: u32) -> bool
+    ensures { result ≡ true }
+{
+    let Some(first) = pages.take_run(length) else {
+        return true;
+    };
+    let _second = pages.take_run(other);
+    pages.is_run_taken(first, length)
+}
+
+/// Gives back a run of pages, and returns whether the page `other`, which was taken before, still
+/// is. The result is `true` if `other` is no page of the run.
+pub fn give_run_and_ask_another<B: BitsOwned>(
+    pages: &mut Pages<B>,
+    first: u32,
+    length: u32,
+    other: u32,
+) -> bool
+    ensures below { other < first → result ≡ true }
+    ensures past { first + length ≤ other → result ≡ true }
+{
+    if !pages.is_taken(other) {
+        return true;
+    }
+    let _given = pages.give_back_run(first, length);
+    pages.is_taken(other)
+}
+
+/// Takes a run of length 0. Returns the answer, which is always 0, and how many pages are taken
+/// afterwards: as many as before.
+pub fn take_no_pages<B: BitsOwned>(pages: &mut Pages<B>) -> (Option<u32>, u32)
+    ensures answer { result.0 ≡ Some 0 }
+    ensures count { result.1 ≡ size (set_in B.Shape B.Order.Endian pages.old.map) }
+{
+    let first = pages.take_run(0);
+    (first, pages.taken())
+}
+
+/// Gives back a run of length 0. Returns whether the call returns `Ok` exactly if `first` is at
+/// most the number of pages, which is always so.
+pub fn give_no_pages<B: BitsOwned>(pages: &mut Pages<B>, first: u32) -> bool
+    ensures { result ≡ true }
+{
+    pages.give_back_run(first, 0).is_ok() == (first <= pages.pages())
+}
+
+/// Asks for more pages than there are, and gives back a run that ends past the last page. Returns
+/// whether one of the calls took effect. The result is always `false`.
+pub fn pass_the_end<B: BitsOwned>(pages: &mut Pages<B>, first: u32, length: u32) -> bool
+    requires { B.type_capacity < length }
+    ensures { result ≡ false }
+{
+    pages.take_run(length).is_some() || pages.give_back_run(first, length).is_ok()
 }
 
 /// Takes a page and then a run of `length` pages, and returns how many pages are taken afterwards.
@@ -236,6 +366,47 @@ pub fn serve_and_count<B: BitsOwned>(
     pages.serve(requests, answers);
 }
 
+/// Serves requests, and writes `owner` to the entry of the page that answer `i` names, if it names
+/// one.
+pub fn serve_and_own(
+    pages: &mut Pages<u8>,
+    requests: &[Request],
+    answers: &mut [Answer],
+    i: usize,
+    owners: &mut [u32; 8],
+    owner: u32,
+)
+    requires as_long { length answers.old ≡ length requests.now }
+    requires i { i < length requests.now }
+{
+    pages.serve(requests, answers);
+    if let Answer::Page(page) = answers[i] {
+        owners[page as usize] = owner;
+    }
+}
+
+/// Serves requests, and returns the number after the last page of the run that answer `i` names, or
+/// 0 if it names no run. The sum does not overflow.
+pub fn serve_and_end(
+    pages: &mut Pages<u8>,
+    requests: &[Request],
+    answers: &mut [Answer],
+    i: usize,
+) -> u32
+    requires as_long { length answers.old ≡ length requests.now }
+    requires i { i < length requests.now }
+    ensures { result ≤ 8 }
+{
+    pages.serve(requests, answers);
+    let Request::TakeRun(length) = requests[i] else {
+        return 0;
+    };
+    let Answer::Run(first) = answers[i] else {
+        return 0;
+    };
+    first + length
+}
+
 /// Takes a page and a run of pages. The clause says that the two calls, with what they return, are
 /// a history of calls: they lead from the taken pages before to the taken pages afterwards.
 pub fn take_both<B: BitsOwned>(pages: &mut Pages<B>, length: u32) -> (Option<u32>, Option<u32>)
@@ -274,6 +445,20 @@ pub fn give_both_back<B: BitsOwned>(
     let page = pages.give_back(page).is_ok();
     let run = pages.give_back_run(first, length).is_ok();
     (page, run)
+}
+
+/// States that a call that is answered by `Full`, `NotFree`, `NoRun` or `NotTaken` changes nothing,
+/// and that no sequence of calls changes how many pages there are.
+pub fn calls_keep_pages()
+    ensures refused { (before after : PlainSet) (request : Request) (answer : Answer)
+        → IsCall answer_to state_after before request answer after
+        → is_refused answer ≡ true → after ≡ before }
+    ensures number { (before after : PlainSet) (calls : List (Request × Answer))
+        → IsHistory answer_to state_after before calls after → after.capacity ≡ before.capacity }
+{
+    page_laws::calls_answer_as_lists();
+    page_laws::unchanged_exactly_if_refused();
+    page_laws::pages_stay();
 }
 
 /// States that the requests and the answers of any sequence of calls tell how many more pages are
