@@ -6,7 +6,8 @@ use Rattle.bittle.specs.Searches.{NoneIn}
 use Rattle.bittle.proofs.CallerChanges.{size_with, size_without}
 use Rattle.bittle.proofs.CallerSets.{size_at_most, size_whole}
 use Rattle.bit_entities.specs.Entities.{World, IsWorld, least_dead, may_have, without_entity, with_component, spawned_or_full, with_spawned, answer_to, world_after, event_answers, final_world}
-use Rattle.bit_entities.specs.EntityLaws.{spawned_by, removed_by, total}
+use Rattle.bit_histories.specs.Histories.{total}
+use Rattle.bit_entities.specs.EntityLaws.{spawned_by, removed_by}
 use Rattle.bit_entities.specs.declared.Event.{Event}
 use Rattle.bit_entities.specs.declared.Event.TheVariants.{Spawn, Remove, Attach, Detach}
 use Rattle.bit_entities.specs.declared.Answer.TheVariants.{Done, Refused}

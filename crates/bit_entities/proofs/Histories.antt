@@ -13,15 +13,6 @@ use Rattle.bit_entities.proofs.LeastDead.{outside}
 use Rattle.bit_entities.proofs.Masks.{number_now}
 use Rattle.bit_entities.proofs.Worlds.{dead_lacks, left, has_now}
 
--- an answer of a list is the answer in the world that the events before it leave
-pub answered_at : (w : World) (events : List Event) (i : ℕ) →
-    slice_get (event_answers w events) i
-    ≡ option_map (answer_to (final_world w (take i events))) (slice_get events i)
-unfolding event_answers final_world
-answered_at w [] i = refl
-answered_at w (event ∷ events) zero = refl
-answered_at w (event ∷ events) (suc i) = answered_at (world_after w event) events i
-
 -- an entity lives on until it is removed
 lives_on : (w : World) (event : Event) (entity : ℕ) → w.alive.has entity ≡ true →
     ((world_after w event).alive.has entity ≡ true) ⊎ (event ≡ Remove entity)

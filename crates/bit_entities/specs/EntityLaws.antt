@@ -2,6 +2,7 @@
 use Rattle.std.specs.Prelude.{◌≡◌, ◌≢◌, ℕ, suc, ◌+◌, ◌<◌, ◌⊎◌, ◌↔◌, Bool, true, false, ◌==◌, Some, List, [], ◌∷◌, option_map, slice_get, take}
 use Rattle.bittle.specs.PlainSet.{PlainSet, ascending, size}
 use Rattle.bittle.specs.Searches.{NoneIn, IsFirstIn}
+use Rattle.bit_histories.specs.Histories.{total}
 use Rattle.bit_entities.specs.Entities.{World, IsWorld, empty_world, answer_to, world_after, event_answers, final_world, matching}
 use Rattle.bit_entities.specs.declared.Event.{Event}
 use Rattle.bit_entities.specs.declared.Event.TheVariants.{Spawn, Remove, Attach, Detach}
@@ -131,13 +132,6 @@ removed_by event Full = 0
 removed_by event Done = removals event
 removed_by event Refused = 0
 
--- the sum of `count` over all events of a list, each with its answer
-unfoldable pub total : (Event → Answer → ℕ) → List Event → List Answer → ℕ
-total count [] answers = 0
-total count (event ∷ events) [] = 0
-total count (event ∷ events) (answer ∷ answers) =
-    count event answer + total count events answers
-
 -- the number of entities alive after a list of events, plus the number that the list removed, is
 -- the number alive before the list, plus the number that the list spawned
 abbrev pub LivingAreCounted : Type 0
@@ -146,14 +140,6 @@ LivingAreCounted =
     → IsWorld w
     → size (final_world w events).alive + total removed_by events (event_answers w events)
     ≡ size w.alive + total spawned_by events (event_answers w events)
-
--- answer i of a list is the answer to event i, in the world that the events before it leave; there
--- is an answer to each event, and no other
-abbrev pub AnswersAreOfTheirWorlds : Type 0
-AnswersAreOfTheirWorlds =
-    (w : World) (events : List Event) (i : ℕ)
-    → slice_get (event_answers w events) i
-    ≡ option_map (answer_to (final_world w (take i events))) (slice_get events i)
 
 -- event k of a list removed the entity
 pub record IsRemoved (w : World) (events : List Event) (k entity : ℕ) : Type 0 where

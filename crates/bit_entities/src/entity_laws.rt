@@ -3,13 +3,13 @@
 //! `serve` states that `serve` answers as this machine does, and leaves the machine's last state.
 //! The laws also speak of `matching`, the set that the call `matching` returns.
 
-ghost use Rattle.bit_histories.specs.Histories.{CallsAnswerAsLists};
+ghost use Rattle.bit_histories.specs.Histories.{AnswersAreOfTheirStates, CallsAnswerAsLists};
 ghost use Rattle.bit_entities.specs.Entities.{answer_to, world_after, event_answers, final_world};
 ghost use Rattle.bit_entities.specs.EntityLaws.{WorldsStayWorlds, DeadHaveNothing, SpawnedAreNew};
 ghost use Rattle.bit_entities.specs.EntityLaws.{SpawnedExactlyIfLeast, FullExactlyIfAllAreAlive};
 ghost use Rattle.bit_entities.specs.EntityLaws.{DoneExactlyIfPossible, RefusedChangesNothing};
 ghost use Rattle.bit_entities.specs.EntityLaws.{OthersAreUnchanged, OtherComponentsStay, SizesStay};
-ghost use Rattle.bit_entities.specs.EntityLaws.{AnswersAreOfTheirWorlds, SpawnedAreRemovedBetween};
+ghost use Rattle.bit_entities.specs.EntityLaws.{SpawnedAreRemovedBetween};
 ghost use Rattle.bit_entities.specs.EntityLaws.{LivingAreRemovedFirst, LivingAreThoseKept};
 ghost use Rattle.bit_entities.specs.EntityLaws.{LivingAreCounted};
 ghost use Rattle.bit_entities.specs.EntityLaws.{ComponentsAreThoseKept, QueriesVisitEachOnce};
@@ -81,7 +81,7 @@ pub fn living_are_counted()
 /// events leave, and that there are as many answers as events. So what holds of one answer in any
 /// world holds of each answer of the list.
 pub fn answers_are_of_their_worlds()
-    ensures { AnswersAreOfTheirWorlds }
+    ensures { AnswersAreOfTheirStates answer_to world_after event_answers final_world }
 {}
 
 /// States that a list of events spawns an entity that was alive before the list only after the list

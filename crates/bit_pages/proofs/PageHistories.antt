@@ -14,7 +14,8 @@ use Rattle.bittle.specs.PlainSet.{PlainSet, complement, is_in_span, size}
 use Rattle.bittle_bits.proofs.Spans.{is_in_span-inside, is_in_span-outside}
 use Rattle.bittle_ext.specs.Runs.{IsFirstRun}
 use Rattle.bittle_ext.proofs.RunCounts.{run_is_unset}
-use Rattle.bit_pages.specs.PageLaws.{IsLeastFree, asks_back, hands_out, pages_back, pages_handed_out, total, held_with, held_after, held_after_list, outstanding, gives_back, came_back, AreOutstanding}
+use Rattle.bit_histories.specs.Histories.{total}
+use Rattle.bit_pages.specs.PageLaws.{IsLeastFree, asks_back, hands_out, pages_back, pages_handed_out, held_with, held_after, held_after_list, outstanding, gives_back, came_back, AreOutstanding}
 use Rattle.bit_pages.specs.Pages.{is_taken, is_free_page, is_run_taken, least_free, first_free_run, page_or_full, run_or_none, answer_to, state_after, request_answers, final_state}
 use Rattle.bit_pages.specs.declared.Answer.TheVariants as answer
 use Rattle.bit_pages.specs.declared.Request.{Request}
@@ -22,15 +23,6 @@ use Rattle.bit_pages.specs.declared.Request.TheVariants.{Take, TakeAt, GiveBack,
 use Rattle.bit_pages.proofs.FreeRuns.{first_free_run-is}
 use Rattle.bit_pages.proofs.LeastFree.{least_free-is, free_page}
 use Rattle.bit_pages.proofs.PageSteps.{step}
-
--- each request of a list is answered in the state that the requests before it leave
-pub answered_at : (s : PlainSet) (requests : List Request) (i : ℕ) →
-    slice_get (request_answers s requests) i
-    ≡ option_map (answer_to (final_state s (take i requests))) (slice_get requests i)
-unfolding request_answers final_state
-answered_at s [] i = refl
-answered_at s (request ∷ requests) zero = refl
-answered_at s (request ∷ requests) (suc i) = answered_at (state_after s request) requests i
 
 -- the pages of a list of requests add up, as `PagesAreCounted` states
 pub counted : (s : PlainSet) (requests : List Request) →

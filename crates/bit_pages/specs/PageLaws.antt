@@ -4,6 +4,7 @@ use Rattle.std.specs.Option.{option_map}
 use Rattle.std.specs.Prelude.{◌≡◌, ℕ, zero, suc, ◌+◌, ◌<◌, ◌≤◌, ◌↔◌, ◌⊎◌, Bool, true, false, not, ◌&&◌, ◌||◌, ◌==◌, Some, List, [], ◌∷◌, ◌++◌, slice_get, take}
 use Rattle.bittle.specs.PlainSet.{PlainSet, complement, is_in_span, size}
 use Rattle.bittle_ext.specs.Runs.{IsFirstRun, IsRun}
+use Rattle.bit_histories.specs.Histories.{total}
 use Rattle.bit_pages.specs.Pages.{is_taken, is_run_taken, answer_to, state_after, request_answers, final_state}
 use Rattle.bit_pages.specs.declared.Request.{Request}
 use Rattle.bit_pages.specs.declared.Request.TheVariants.{Take, TakeAt, GiveBack, TakeRun, GiveBackRun}
@@ -73,14 +74,6 @@ NotTakenExactlyIfNotTaken =
     ⊎ ((first : ℕ) × (length : ℕ) × (request ≡ GiveBackRun first length)
     × (IsRun s length first → ⊥)))
 
--- each request of a list is answered in the state that the requests before it leave, and there is
--- no other answer
-abbrev pub AnswersAreOfTheirStates : Type 0
-AnswersAreOfTheirStates =
-    (s : PlainSet) (requests : List Request) (i : ℕ)
-    → slice_get (request_answers s requests) i
-    ≡ option_map (answer_to (final_state s (take i requests))) (slice_get requests i)
-
 -- how many pages a request asks for, or gives back
 abbrev pub length_of : Request → ℕ
 length_of Take = 1
@@ -140,13 +133,6 @@ pages_back request Given = length_of request
 pages_back request NotTaken = 0
 pages_back request (Run first) = 0
 pages_back request NoRun = 0
-
--- the sum of `count` over all requests of a list, each with its answer
-unfoldable pub total : (Request → Answer → ℕ) → List Request → List Answer → ℕ
-total count [] answers = 0
-total count (request ∷ requests) [] = 0
-total count (request ∷ requests) (answer ∷ answers) =
-    count request answer + total count requests answers
 
 -- the number of pages taken after a list of requests, plus the number that the list gave back, is
 -- the number taken before the list, plus the number that the list handed out

@@ -3,7 +3,7 @@
 //! contract of `serve` states that `serve` answers as this machine does, and leaves the machine's
 //! last state.
 
-ghost use Rattle.bit_histories.specs.Histories.{CallsAnswerAsLists};
+ghost use Rattle.bit_histories.specs.Histories.{AnswersAreOfTheirStates, CallsAnswerAsLists};
 ghost use Rattle.bit_pages.specs.Pages.{answer_to, state_after, request_answers, final_state};
 ghost use Rattle.bit_pages.specs.PageLaws.{PagesAreFree, FullExactlyIfAllAreTaken};
 ghost use Rattle.bit_pages.specs.PageLaws.{NotFreeExactlyIfNotFree};
@@ -11,7 +11,7 @@ ghost use Rattle.bit_pages.specs.PageLaws.{RunsAreFirst, NoRunExactlyIfNoneIsFre
 ghost use Rattle.bit_pages.specs.PageLaws.{GivenExactlyIfTaken, NotTakenExactlyIfNotTaken};
 ghost use Rattle.bit_pages.specs.PageLaws.{UnchangedExactlyIfRefused, PagesStay, AnswersAreBelow};
 ghost use Rattle.bit_pages.specs.PageLaws.{PagesComeBackBetween, TakenPagesComeBackFirst};
-ghost use Rattle.bit_pages.specs.PageLaws.{AnswersAreOfTheirStates, PagesAreCounted};
+ghost use Rattle.bit_pages.specs.PageLaws.{PagesAreCounted};
 ghost use Rattle.bit_pages.specs.PageLaws.{PagesAreOutstanding};
 
 /// States that a page is answered exactly if any page is asked for and this page is the least free
@@ -73,7 +73,7 @@ pub fn answers_are_below()
 /// and that there is no other answer. So what holds of one answer in any state holds of each answer
 /// of the list.
 pub fn answers_are_of_their_states()
-    ensures { AnswersAreOfTheirStates }
+    ensures { AnswersAreOfTheirStates answer_to state_after request_answers final_state }
 {}
 
 /// States that the number of pages taken after a list of requests is the number before the list,

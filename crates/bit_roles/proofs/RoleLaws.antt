@@ -392,16 +392,6 @@ same_counts_run r (request ∷ requests) =
     let later = same_counts_run (roles_after r request) requests in
     (later.0 ∙ one.0, later.1 ∙ one.1)
 
--- an answer of a list is the answer in the state that the earlier requests leave
-pub answered_at : (r : Roles) (requests : List Request) (i : ℕ) →
-    slice_get (request_answers r requests) i
-    ≡ option_map (answer_to (final_roles r (take i requests))) (slice_get requests i)
-unfolding request_answers final_roles
-answered_at r [] zero = refl
-answered_at r [] (suc i) = refl
-answered_at r (request ∷ requests) zero = refl
-answered_at r (request ∷ requests) (suc i) = answered_at (roles_after r request) requests i
-
 -- a role allows just what it was granted and what its parent allows
 pub allows_by_parent : (r : Roles) (role permission : ℕ) → Allows r role permission
     ↔ ((r.granted role permission ≡ true)

@@ -31,13 +31,6 @@ NumbersStay =
     → ((final_roles r requests).count ≡ r.count)
     × ((final_roles r requests).permissions ≡ r.permissions)
 
--- in every list, answer i is the answer to request i in the state that the earlier requests leave
-abbrev pub AnswersAreOfTheirStates : Type 0
-AnswersAreOfTheirStates =
-    (r : Roles) (requests : List Request) (i : ℕ)
-    → slice_get (request_answers r requests) i
-    ≡ option_map (answer_to (final_roles r (take i requests))) (slice_get requests i)
-
 -- a role allows just the permissions that it was granted and those that its parent allows
 abbrev pub AllowsOwnAndParents : Type 0
 AllowsOwnAndParents =

@@ -3,10 +3,10 @@
 //! `serve` states that `serve` answers as this machine does, and leaves the machine's last state.
 //! The laws also speak of `Allows`, which the contract of `allows` uses.
 
-ghost use Rattle.bit_histories.specs.Histories.{CallsAnswerAsLists};
+ghost use Rattle.bit_histories.specs.Histories.{AnswersAreOfTheirStates, CallsAnswerAsLists};
 ghost use Rattle.bit_roles.specs.Roles.{answer_to, roles_after, request_answers, final_roles};
 ghost use Rattle.bit_roles.specs.RoleLaws.{DoneExactlyIfPossible, RefusedChangesNothing};
-ghost use Rattle.bit_roles.specs.RoleLaws.{AnswersAreOfTheirStates, AllowsOwnAndParents};
+ghost use Rattle.bit_roles.specs.RoleLaws.{AllowsOwnAndParents};
 ghost use Rattle.bit_roles.specs.RoleLaws.{NumbersStay, NothingIsAllowedAtFirst};
 ghost use Rattle.bit_roles.specs.RoleLaws.{GrantsGiveJustTheirPermission};
 ghost use Rattle.bit_roles.specs.RoleLaws.{InheritsWhatTheParentAllowed};
@@ -36,7 +36,7 @@ pub fn numbers_stay()
 /// States that in every list, answer `i` is the answer to request `i` in the state that the earlier
 /// requests leave. So what holds of one answer in any state holds of each answer of the list.
 pub fn answers_are_of_their_states()
-    ensures { AnswersAreOfTheirStates }
+    ensures { AnswersAreOfTheirStates answer_to roles_after request_answers final_roles }
 {}
 
 /// States that a role allows just the permissions that it was granted and those that its parent

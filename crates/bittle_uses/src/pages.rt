@@ -4,8 +4,8 @@
 ghost use Rattle.std.specs.Prelude.{◌≡◌, ◌≢◌, ◌+◌, ◌-◌, ◌<◌, ◌≤◌, IfSome, IsTrue, MatchOption};
 ghost use Rattle.std.specs.Prelude.{Some, false, length, true};
 ghost use Rattle.std.specs.Prelude.{if◌then◌else◌, map, slice_set, [], ◌∷◌, List};
-ghost use Rattle.bit_histories.specs.Histories.{IsCall, IsHistory};
-ghost use Rattle.bit_pages.specs.PageLaws.{is_refused, pages_back, pages_handed_out, total};
+ghost use Rattle.bit_histories.specs.Histories.{IsCall, IsHistory, total};
+ghost use Rattle.bit_pages.specs.PageLaws.{is_refused, pages_back, pages_handed_out};
 ghost use Rattle.bit_pages.specs.Pages.{answer_to, state_after, is_run_taken, is_taken, least_free};
 ghost use Rattle.bit_pages.specs.Pages.{page_or_full, run_or_none};
 ghost use Rattle.bittle.specs.BitPatterns.{bit_set};
