@@ -1,9 +1,10 @@
 -- The least number that is not alive, and how a search finds it.
-use Rattle.std.proofs.Common.{◌≡◌, ℕ, ◌<◌, Bool, true, false, not, nat_lt, Option, Some, None, List, [], ◌∷◌, refl, sym, ap, ◌∙◌, subst, inl, inr, arith}
+use Rattle.std.proofs.Common.{◌≡◌, ℕ, ◌<◌, ◌≤◌, Bool, true, false, not, nat_lt, Option, Some, None, List, [], ◌∷◌, refl, sym, ap, ◌∙◌, subst, inl, inr, arith}
 use Rattle.std.proofs.lemmas.Bool.{cases_lt, ltb-true, and_parts, true≢false}
-use Rattle.std.specs.Prelude.{slice_get}
+use Rattle.std.specs.Prelude.{slice_get, MatchOption}
 use Rattle.bittle.specs.PlainSet.{PlainSet, ascending, complement, lacks}
 use Rattle.bittle.specs.Searches.{IsFirstIn}
+use Rattle.bittle.proofs.CallerSets.{complement_within}
 use Rattle.bittle.proofs.CallerLists.{ascending_none, ascending_first}
 
 -- a search of all numbers finds the first item of the increasing list
@@ -48,3 +49,14 @@ outside s k e =
     by : (b : Bool) → not b ≡ true → b ≡ false
     by true e = absurd (cc)
     by false e = refl
+
+-- what a search of the complement finds is at most each number that is no member
+pub least_outside : (s : PlainSet) (found : Option ℕ) → IsFirstIn (complement s) 0 s.capacity found →
+    (k : ℕ) → k < s.capacity → s.has k ≡ false → MatchOption found ⊥ (λ new. new ≤ k)
+least_outside s None none k h dead =
+    absurd (true≢false (sym (complement_within s k h ∙ ap not dead) ∙ none k (omega arith) h))
+least_outside s (Some e) one k h dead = elim (cases_lt k e) [
+  | inl l ↦ absurd (true≢false (sym (complement_within s k h ∙ ap not dead)
+      ∙ one.3 k (omega arith) l))
+  | inr g ↦ omega (arith, g)
+]

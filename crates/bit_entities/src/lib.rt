@@ -176,6 +176,9 @@ impl<B: BitsOwned, const N: usize> World<B, N> {
             B.type_capacity result }
         ensures room { let living = size (set_in B.Shape B.Order.Endian self.old.alive) in
             MatchOption result (living ≡ B.type_capacity) (λ _. living < B.type_capacity) }
+        ensures least_dead { let before = set_in B.Shape B.Order.Endian self.old.alive in
+            (other : ℕ) → other < B.type_capacity → before.has other ≡ false
+            → MatchOption result ⊥ (λ entity. entity ≤ other) }
         ensures below { IfSome result (λ entity. entity < B.type_capacity) }
         ensures was_dead { let before = world_of N (set_in B.Shape B.Order.Endian) self.old.alive
             self.old.components in IfSome result (λ entity. before.alive.has entity ≡ false) }

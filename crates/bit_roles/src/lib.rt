@@ -86,8 +86,13 @@ impl<B: BitsOwned, const N: usize> Roles<B, N> {
     /// checks this. With capacity 0 there is no permission.
     pub fn new() -> Roles<B, N>
         requires { IsTrue B.indexable }
-        ensures { roles_of N B.type_capacity (set_in B.Shape B.Order.Endian)
+        ensures roles { roles_of N B.type_capacity (set_in B.Shape B.Order.Endian)
             result.granted result.parents ≡ bare_roles N B.type_capacity }
+        ensures none { (role permission : ℕ) → (roles_of N B.type_capacity
+            (set_in B.Shape B.Order.Endian) result.granted result.parents).granted role permission
+            ≡ false }
+        ensures orphans { (role : ℕ) → (roles_of N B.type_capacity
+            (set_in B.Shape B.Order.Endian) result.granted result.parents).parent role ≡ None }
     {
         Roles {
             granted: [B::zeros(); N],
@@ -116,6 +121,11 @@ impl<B: BitsOwned, const N: usize> Roles<B, N> {
             → after.granted other more ≡ before.granted other more }
         ensures allows { let after = roles_of N B.type_capacity (set_in B.Shape B.Order.Endian)
             self.new.granted self.new.parents in IsOk result → Allows after role permission }
+        ensures heirs { let before = roles_of N B.type_capacity
+            (set_in B.Shape B.Order.Endian) self.old.granted self.old.parents in
+            let after = roles_of N B.type_capacity (set_in B.Shape B.Order.Endian)
+            self.new.granted self.new.parents in (other : ℕ) → IsOk result
+            → LeadsTo before other role → Allows after other permission }
         ensures still_allows { let before = roles_of N B.type_capacity
             (set_in B.Shape B.Order.Endian) self.old.granted self.old.parents in
             let after = roles_of N B.type_capacity (set_in B.Shape B.Order.Endian)
@@ -151,6 +161,8 @@ impl<B: BitsOwned, const N: usize> Roles<B, N> {
         ensures done { IsOk result ↔ ((role < N) × (parent < role)) }
         ensures parent { let after = roles_of N B.type_capacity (set_in B.Shape B.Order.Endian)
             self.new.granted self.new.parents in IsOk result → after.parent role ≡ Some parent }
+        ensures leads { let after = roles_of N B.type_capacity (set_in B.Shape B.Order.Endian)
+            self.new.granted self.new.parents in IsOk result → LeadsTo after role parent }
         ensures others { let before = roles_of N B.type_capacity
             (set_in B.Shape B.Order.Endian) self.old.granted self.old.parents in
             let after = roles_of N B.type_capacity (set_in B.Shape B.Order.Endian)
@@ -241,6 +253,9 @@ impl<B: BitsOwned, const N: usize> Roles<B, N> {
         ensures denies { let roles = roles_of N B.type_capacity (set_in B.Shape B.Order.Endian)
             self.now.granted self.now.parents in roles.granted role permission ≡ false
             → roles.parent role ≡ None → result ≡ false }
+        ensures own { let roles = roles_of N B.type_capacity (set_in B.Shape B.Order.Endian)
+            self.now.granted self.now.parents in
+            roles.granted role permission ≡ true → IsTrue result }
         ensures a_role { IsTrue result → role < N }
         ensures a_permission { IsTrue result → permission < B.type_capacity }
     {

@@ -1,10 +1,11 @@
-use Rattle.std.proofs.Common.{◌<◌, true, Some, None, sym, ap, ◌∙◌, subst, arith}
+use Rattle.std.proofs.Common.{ℕ, Option, ◌<◌, true, Some, None, sym, ap, ◌∙◌, subst, arith}
 use Rattle.bittle.specs.PlainSet.{PlainSet, complement, size}
+use Rattle.bittle.specs.Searches.{IsFirstIn}
 use Rattle.bittle.specs.Values.{set_in}
 use Rattle.bittle.proofs.CallerChanges.{size_with}
 use Rattle.bit_entities.specs.Entities.{World, IsWorld, world_of, with_spawned}
 use Rattle.bit_entities.proofs.Counts.{none_is_full, free_is_room}
-use Rattle.bit_entities.proofs.LeastDead.{first_listed, outside}
+use Rattle.bit_entities.proofs.LeastDead.{first_listed, least_outside, outside}
 use Rattle.bit_entities.proofs.Masks.{put_in, number_now}
 use Rattle.bit_entities.proofs.Others.{number_other}
 use Rattle.bit_entities.proofs.Worlds.{now_lives, living_is_world, dead_lacks}
@@ -105,3 +106,22 @@ returns-clause-room g c =
     let capacity = g.met.B.FixedCapacity.one_capacity c.args.self.now.alive in
     let room = free_is_room alive c.in_ok-entity.entity c.in_ok-entity.ensures.2 in
     omega (arith, capacity, room)
+
+pub returns-in_err-entity-clause-least_dead : goal.returns-in_err-entity-clause-least_dead
+returns-in_err-entity-clause-least_dead g c other below dead =
+    let alive : PlainSet = set_in g.B.Shape g.B.Order.Endian c.args.self.now.alive in
+    let capacity = g.met.B.FixedCapacity.one_capacity c.args.self.now.alive in
+    let bits = c.bits.ensures.value c.args.self.now.fits in
+    rw c.from_residual.ensures
+    (least_outside alive None
+    (subst (λ (n : ℕ). IsFirstIn (complement alive) 0 n None) (bits ∙ sym capacity) c.in_err-entity.ensures)
+    other (omega (arith, below, capacity)) dead)
+
+pub returns-clause-least_dead : goal.returns-clause-least_dead
+returns-clause-least_dead g c other below dead =
+    let alive : PlainSet = set_in g.B.Shape g.B.Order.Endian c.args.self.now.alive in
+    let capacity = g.met.B.FixedCapacity.one_capacity c.args.self.now.alive in
+    let bits = c.bits.ensures.value c.args.self.now.fits in
+    least_outside alive (Some c.in_ok-entity.entity)
+    (subst (λ (n : ℕ). IsFirstIn (complement alive) 0 n (Some c.in_ok-entity.entity)) (bits ∙ sym capacity) c.in_ok-entity.ensures)
+    other (omega (arith, below, capacity)) dead

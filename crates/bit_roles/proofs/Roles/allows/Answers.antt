@@ -53,3 +53,10 @@ returns-clause-denies g c own up =
     absurd (allows_nothing (roles_of g.row.N g.B.Shape.type_capacity
     (set_in g.B.Shape g.B.Order.Endian) c.args.self.now.granted c.args.self.now.parents)
     c.args.role c.args.permission up own ((returns-clause-value g c).0 refl))
+
+pub returns-in-None-clause-own : goal.returns-in-None-clause-own
+returns-in-None-clause-own g c own =
+    (returns-in-None-clause-value g c).1 (allows_granted _ c.args.role c.args.permission own)
+
+pub returns-clause-own : goal.returns-clause-own
+returns-clause-own g c own = refl

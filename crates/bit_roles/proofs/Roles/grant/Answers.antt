@@ -1,8 +1,9 @@
-use Rattle.std.proofs.Common.{◌<◌, get_or, length, ap, sym, subst, ◌∙◌, arith}
+use Rattle.std.proofs.Common.{◌<◌, get_or, length, ap, sym, subst, ◌∙◌, inr, refl, arith}
+use Rattle.std.proofs.lemmas.Bool.{lt-ltb}
 use Rattle.std.proofs.lemmas.Option.{slice_get-get_or}
 use Rattle.bittle.specs.Values.{set_in}
 use Rattle.bit_roles.specs.Roles.{Allows, roles_of}
-use Rattle.bit_roles.proofs.RoleLaws.{allows_granted, now_granted, other_roles_keep, other_permissions_keep, stays_allowed, others_gain_nothing}
+use Rattle.bit_roles.proofs.RoleLaws.{allows_granted, grant_gives, now_granted, other_roles_keep, other_permissions_keep, stays_allowed, others_gain_nothing}
 use Rattle.bit_roles.proofs.Rows.{row_granted}
 use Rattle.bit_roles.proofs.Roles.grant.Goals as goal
 
@@ -54,3 +55,14 @@ pub returns-clause-others_gain_nothing : goal.returns-clause-others_gain_nothing
 returns-clause-others_gain_nothing g c other allowed apart is =
     others_gain_nothing _ c.args.role c.args.permission other allowed apart
     (subst (λ roles. Allows roles other allowed) (returns-clause-roles g c) is)
+
+pub returns-clause-heirs : goal.returns-clause-heirs
+returns-clause-heirs g c other done leads =
+    let bits = c.bits.ensures.value c.args.self.now.fits in
+    let a_role = lt-ltb c.args.role g.row.N (omega (arith, c.if-role.false)) in
+    let known = lt-ltb c.args.permission g.B.Shape.type_capacity
+    (omega (arith, bits, c.if-permission-bits.false)) in
+    subst (λ roles. Allows roles other c.args.permission) (sym (returns-clause-roles g c))
+    ((grant_gives (roles_of g.row.N g.B.Shape.type_capacity (set_in g.B.Shape g.B.Order.Endian)
+    c.args.self.now.granted c.args.self.now.parents) c.args.role c.args.permission other
+    c.args.permission (rw (a_role, known) refl)).1 (inr (refl, leads)))

@@ -1,6 +1,6 @@
 use Rattle.std.proofs.Common.{◌<◌, length, inr, ap, sym, subst, ◌∙◌, arith}
 use Rattle.bittle.specs.Values.{set_in}
-use Rattle.bit_roles.specs.Roles.{Allows, roles_of}
+use Rattle.bit_roles.specs.Roles.{Allows, ancestor, roles_of}
 use Rattle.bit_roles.specs.declared.Request.TheVariants.{Inherit}
 use Rattle.bit_roles.proofs.RoleLaws.{done_exactly, inherit_gives, other_parents_keep, others_allow_same}
 use Rattle.bit_roles.proofs.Rows.{lesser_written, parent_written, row_inherits}
@@ -63,3 +63,7 @@ returns-clause-others_allow g c other allowed apart =
       λ a. keep.0 (subst (λ r. Allows r other allowed) same a),
       λ a. subst (λ r. Allows r other allowed) (sym same) (keep.1 a),
     )
+
+pub returns-clause-leads : goal.returns-clause-leads
+unfolding ancestor
+returns-clause-leads g c done = (1, returns-clause-parent g c done)
