@@ -1,5 +1,5 @@
 -- The most urgent ready task, and how a search finds it.
-use Rattle.std.proofs.Common.{◌≡◌, ℕ, ◌+◌, ◌<◌, ◌↔◌, Bool, true, false, not, cond, ◌&&◌, ◌||◌, ◌==◌, nat_lt, Option, Some, None, List, [], ◌∷◌, inl, inr, refl, sym, ap, ◌∙◌, subst, arith}
+use Rattle.std.proofs.Common.{◌≡◌, ℕ, ◌+◌, ◌<◌, ◌≤◌, ◌↔◌, Bool, true, false, not, cond, ◌&&◌, ◌||◌, ◌==◌, nat_lt, Option, Some, None, List, [], ◌∷◌, inl, inr, refl, sym, ap, ◌∙◌, subst, arith}
 use Rattle.std.proofs.lemmas.Bool.{cases_lt, eq-eqb, eqb-true, ne_eqb, lt-ltb, and_right, true≢false}
 use Rattle.std.specs.Prelude.{MatchOption, IsTrue, slice_get}
 use Rattle.bittle.specs.PlainSet.{PlainSet, ascending, contains, with_index, without_index, size}
@@ -112,6 +112,11 @@ is_ready-within s task h = ap (λ b. b && s.has task) (lt-ltb task s.capacity h)
 pub ready-member : (s : PlainSet) (task : ℕ) → task < s.capacity → s.has task ≡ true →
     is_ready s task ≡ true
 ready-member s task h e = ap (λ b. b && s.has task) (lt-ltb task s.capacity h) ∙ e
+
+-- a count that grows by one or stays
+pub grows_by_one : (n m : ℕ) (b : Bool) → m ≡ n + cond b 1 0 → (n ≤ m) × (m ≤ n + 1)
+grows_by_one n m true e = (omega (arith, e), omega (arith, e))
+grows_by_one n m false e = (omega (arith, e), omega (arith, e))
 
 -- the set with a task that was woken
 module _ (s t : PlainSet) (task : ℕ) (h : task < s.capacity) (after : t ≡ with_index s task) where

@@ -95,6 +95,10 @@ impl<B: BitsOwned> PriorityQueue<B> {
         ensures count { let before = set_in B.Shape B.Order.Endian self.old.ready in
             size (set_in B.Shape B.Order.Endian self.new.ready)
             ≡ size before + cond (is_ok result && not (is_ready before task)) 1 0 }
+        ensures at_least { size (set_in B.Shape B.Order.Endian self.old.ready)
+            ≤ size (set_in B.Shape B.Order.Endian self.new.ready) }
+        ensures at_most { size (set_in B.Shape B.Order.Endian self.new.ready)
+            ≤ size (set_in B.Shape B.Order.Endian self.old.ready) + 1 }
         ensures others { (other : ℕ) → other ≢ task
             → is_ready (set_in B.Shape B.Order.Endian self.new.ready) other
             ≡ is_ready (set_in B.Shape B.Order.Endian self.old.ready) other }
