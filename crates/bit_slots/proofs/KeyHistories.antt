@@ -123,7 +123,6 @@ call_goes_on before after Refuses is slot generation = omega (arith, ap age (is 
 pub goes_on : {V : Type 0} (before after : Stages V) (calls : List (Call V)) →
     IsHistory before calls after → (slot generation : ℕ) →
     age (before slot generation) ≤ age (after slot generation)
-unfolding IsHistory
 goes_on before after [] is slot generation =
     subst (λ s. age (before slot generation) ≤ age s) (sym (is slot generation)) (omega arith)
 goes_on before after (call ∷ calls) is slot generation =
@@ -138,7 +137,6 @@ pub finds_nothing : {V : Type 0} (before after : Stages V) (calls : List (Call V
     IsHistory before calls after → (key : Key) (i : ℕ) →
     0 < age (before key.slot key.generation) → slice_get calls i ≡ Some (Removes key) →
     found (after key.slot key.generation) ≡ None
-unfolding IsHistory
 finds_nothing before after [] is key i some e = absurd (cc)
 finds_nothing before after (Inserts value k ∷ calls) is key zero some e = absurd (cc)
 finds_nothing before after (Replaces k value ∷ calls) is key zero some e = absurd (cc)
@@ -164,7 +162,6 @@ finds_nothing before after (call ∷ calls) is key (suc i) some e =
 pub given_before : {V : Type 0} (before after : Stages V) (calls : List (Call V)) →
     IsHistory before calls after → (key : Key) (other : V) (j : ℕ) →
     0 < age (before key.slot key.generation) → slice_get calls j ≡ Some (Inserts other key) → ⊥
-unfolding IsHistory
 given_before before after [] is key other j some e = cc
 given_before before after (Removes k ∷ calls) is key other zero some e = cc
 given_before before after (Replaces k value ∷ calls) is key other zero some e = cc
@@ -183,7 +180,6 @@ pub given_once : {V : Type 0} (before after : Stages V) (calls : List (Call V)) 
     IsHistory before calls after → (key : Key) (value other : V) (i j : ℕ) → i < j →
     slice_get calls i ≡ Some (Inserts value key) → slice_get calls j ≡ Some (Inserts other key) →
     ⊥
-unfolding IsHistory
 given_once before after calls is key value other i zero h a b = omega arith
 given_once before after [] is key value other i (suc j) h a b = cc
 given_once before after (Removes k ∷ calls) is key value other zero (suc j) h a b = cc
@@ -242,7 +238,6 @@ pub not_given : {V : Type 0} (before after : Stages V) (calls : List (Call V)) �
     found (before key.slot key.generation) ≡ None →
     ((value : V) (i : ℕ) → slice_get calls i ≡ Some (Inserts value key) → ⊥) →
     found (after key.slot key.generation) ≡ None
-unfolding IsHistory
 not_given before after [] is key none apart = ap found (is key.slot key.generation) ∙ none
 not_given before after (call ∷ calls) is key none apart =
     not_given is.0 after calls is.2 key
@@ -266,7 +261,6 @@ pub given_removed : {V : Type 0} (before after : Stages V) (calls : List (Call V
     IsHistory before calls after → (key : Key) (value : V) (i j : ℕ) → i < j →
     slice_get calls i ≡ Some (Inserts value key) → slice_get calls j ≡ Some (Removes key) →
     found (after key.slot key.generation) ≡ None
-unfolding IsHistory
 given_removed before after calls is key value i zero h a b = absurd (omega arith)
 given_removed before after [] is key value i (suc j) h a b = absurd (cc)
 given_removed before after (Removes k ∷ calls) is key value zero (suc j) h a b = absurd (cc)
@@ -314,7 +308,6 @@ pub kept : {V : Type 0} (before after : Stages V) (calls : List (Call V)) →
     IsHistory before calls after → (key : Key) (value : V) →
     found (before key.slot key.generation) ≡ Some value → SparesFrom 0 calls key →
     found (after key.slot key.generation) ≡ Some value
-unfolding IsHistory
 kept before after [] is key value has spares = ap found (is key.slot key.generation) ∙ has
 kept before after (call ∷ calls) is key value has spares =
     kept is.0 after calls is.2 key value
@@ -328,7 +321,6 @@ kept before after (call ∷ calls) is key value has spares =
 pub finds_its_value : {V : Type 0} (before after : Stages V) (calls : List (Call V)) →
     IsHistory before calls after → (key : Key) (value : V) (i : ℕ) → PutsAt i calls key value →
     SparesFrom (suc i) calls key → found (after key.slot key.generation) ≡ Some value
-unfolding IsHistory
 finds_its_value before after [] is key value i (inl e) spares = absurd (cc)
 finds_its_value before after [] is key value i (inr e) spares = absurd (cc)
 finds_its_value before after (Removes k ∷ calls) is key value zero (inl e) spares = absurd (cc)

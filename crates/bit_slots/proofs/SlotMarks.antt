@@ -67,6 +67,23 @@ pub freed : {V : Type 0} (row : List (Slot V)) (i : ℕ) (d f : Slot V) → i < 
 freed row i d f h true is was = joins is_free row i d f h (sym is)
 freed row i d f h false is was = stays is_free row i d f h (sym is ∙ sym was)
 
+-- whether each slot is free after a slot that held a value was emptied
+pub emptied_free : {V : Type 0} (row : List (Slot V)) (i : ℕ) (d f : Slot V) → i < length row →
+    (again : Bool) → is_free f ≡ again → is_free (get_or row i d) ≡ false → (k : ℕ) →
+    is_slot is_free (set row i f) k ≡ (((k == i) && again) || is_slot is_free row k)
+emptied_free row i d f h again is was k =
+    ap (passes is_free) (slice_get_set row i f h k) ∙ elim (cases_eq k i) [
+      | inl here ↦
+          let old : is_slot is_free row k ≡ false =
+          ap (passes is_free) (stood row i d f h k here) ∙ was in
+          rw (eq-eqb k i here) (is ∙ sym (ap (λ b. again || b) old ∙ by again))
+      | inr apart ↦ rw (ne_eqb k i apart) refl
+    ]
+  where
+    by : (b : Bool) → (b || false) ≡ b
+    by true = refl
+    by false = refl
+
 -- after the value of a slot changed, the same slots are free, and the same slots hold a value
 module _ {V : Type 0} (row : List (Slot V)) (i : ℕ) (d f : Slot V) (h : i < length row)
     (generation : ℕ) where

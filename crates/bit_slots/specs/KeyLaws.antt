@@ -19,7 +19,7 @@ IsCall {V} before (Replaces key value) after = (old : V) × IsKeyReplaced before
 IsCall before Refuses after = AreSameKeys before after
 
 -- how calls that were made one after the other changed the stages of keys
-unfoldable pub IsHistory : {V : Type 0} → Stages V → List (Call V) → Stages V → Type 0
+abbrev pub IsHistory : {V : Type 0} → Stages V → List (Call V) → Stages V → Type 0
 IsHistory before [] after = AreSameKeys before after
 IsHistory {V} before (call ∷ calls) after =
     (between : Stages V) × IsCall before call between × IsHistory between calls after

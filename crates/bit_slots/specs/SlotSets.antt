@@ -55,3 +55,19 @@ Leaves test before slot after = (k : ℕ) →
 -- each slot passes the test now exactly if it did before
 abbrev pub Stays : {V : Type 0} → (Slot V → Bool) → List (Slot V) → List (Slot V) → Type 0
 Stays test before after = (k : ℕ) → is_slot test after k ≡ is_slot test before k
+
+-- the same slots are free, and the same slots hold a value
+abbrev pub AreSameSlots : {V : Type 0} → List (Slot V) → List (Slot V) → Type 0
+AreSameSlots before after = Stays is_free before after × Stays is_live before after
+
+-- a value was put into the slot `slot`: it is not free now, and holds a value; no other slot changes
+-- in this
+abbrev pub IsTaken : {V : Type 0} → List (Slot V) → ℕ → List (Slot V) → Type 0
+IsTaken before slot after = Leaves is_free before slot after × Joins is_live before slot after
+
+-- the value of the slot `slot` was taken out: the slot is free now if `again` is true, and holds no
+-- value; no other slot changes in this
+abbrev pub IsEmptied : {V : Type 0} → List (Slot V) → ℕ → Bool → List (Slot V) → Type 0
+IsEmptied before slot again after =
+    ((k : ℕ) → is_slot is_free after k ≡ (((k == slot) && again) || is_slot is_free before k))
+    × Leaves is_live before slot after

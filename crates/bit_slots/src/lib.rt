@@ -20,15 +20,16 @@ ghost use Rattle.std.specs.Fn.{FnOnceReturnsAtMut};
 ghost use Rattle.std.specs.List.{All};
 ghost use Rattle.std.specs.Option.{is_some};
 ghost use Rattle.std.specs.Prelude.{◌≡◌, ◌≢◌, ◌==◌, ◌+◌, ◌<◌, ◌≤◌, ℕ, suc, false, true, length};
-ghost use Rattle.std.specs.Prelude.{nat_lt, option_copied, slice_get, IfErr, IfOk, IfSome, IsTrue};
+ghost use Rattle.std.specs.Prelude.{cond, nat_lt, option_copied, slice_get, IfErr, IfOk, IfSome, IsTrue};
 ghost use Rattle.std.specs.Prelude.{MatchOption, MatchResult, None, Ok, Some};
 ghost use Rattle.bittle.specs.PlainSet.{ascending};
 ghost use Rattle.bittle.specs.Shapes.{Fits};
 ghost use Rattle.bittle.specs.Values.{set_in};
 ghost use Rattle.bit_slots.specs.Entries.{entries, HasEntry, IsEntry};
 ghost use Rattle.bit_slots.specs.Keys.{stages, found, IsInserted, IsRemoved, IsReplaced, HasKey};
-ghost use Rattle.bit_slots.specs.Keys.{IsUpdated};
+ghost use Rattle.bit_slots.specs.Keys.{IsUpdated, Spent, Unused};
 ghost use Rattle.bit_slots.specs.SlotSets.{is_free, is_live, is_slot, live_count, HasSlots};
+ghost use Rattle.bit_slots.specs.SlotSets.{AreSameSlots, IsEmptied, IsTaken};
 
 mod entries;
 #[doc(hidden)]
@@ -119,6 +120,12 @@ impl<'a, V: Drop, B: BitsOwned> Slots<'a, V, B> {
             ≡ found (stages self.old.row.slots.now other.slot other.generation) }
         ensures free { IfOk result (λ key.
             is_slot is_free self.old.row.slots.now key.slot ≡ true) }
+        ensures slots { MatchResult result
+            (λ key. IsTaken self.old.row.slots.now key.slot self.new.row.slots.now)
+            (λ _. AreSameSlots self.old.row.slots.now self.new.row.slots.now) }
+        ensures generation { IfOk result (λ key. (k : ℕ)
+            → stages self.old.row.slots.now key.slot k
+            ≡ cond (nat_lt k key.generation) Spent Unused) }
         ensures within { IfOk result (λ key. key.slot < length self.old.row.slots.now) }
         ensures count { let before = live_count B.type_capacity self.old.row.slots.now in
             let after = live_count B.type_capacity self.new.row.slots.now in
@@ -148,6 +155,10 @@ impl<'a, V: Drop, B: BitsOwned> Slots<'a, V, B> {
             ≡ found (stages self.old.row.slots.now other.slot other.generation) }
         ensures free { IfSome result (λ _. is_slot is_free self.new.row.slots.now key.slot
             ≡ nat_lt key.generation 4294967295) }
+        ensures slots { MatchOption result
+            (AreSameSlots self.old.row.slots.now self.new.row.slots.now)
+            (λ _. IsEmptied self.old.row.slots.now key.slot (nat_lt key.generation 4294967295)
+            self.new.row.slots.now) }
         ensures within { IfSome result (λ _. key.slot < length self.old.row.slots.now) }
         ensures count { let before = live_count B.type_capacity self.old.row.slots.now in
             let after = live_count B.type_capacity self.new.row.slots.now in
@@ -179,6 +190,7 @@ impl<'a, V: Drop, B: BitsOwned> Slots<'a, V, B> {
         ensures others { (other : Key) → other ≢ key
             → found (stages self.new.row.slots.now other.slot other.generation)
             ≡ found (stages self.old.row.slots.now other.slot other.generation) }
+        ensures slots { AreSameSlots self.old.row.slots.now self.new.row.slots.now }
         ensures within { IfOk result (λ _. key.slot < length self.old.row.slots.now) }
         ensures count { live_count B.type_capacity self.new.row.slots.now
             ≡ live_count B.type_capacity self.old.row.slots.now }
@@ -209,6 +221,7 @@ impl<'a, V: Drop, B: BitsOwned> Slots<'a, V, B> {
         ensures others { (other : Key) → other ≢ key
             → found (stages self.new.row.slots.now other.slot other.generation)
             ≡ found (stages self.old.row.slots.now other.slot other.generation) }
+        ensures slots { AreSameSlots self.old.row.slots.now self.new.row.slots.now }
         ensures within { IsTrue result → key.slot < length self.old.row.slots.now }
         ensures count { live_count B.type_capacity self.new.row.slots.now
             ≡ live_count B.type_capacity self.old.row.slots.now }

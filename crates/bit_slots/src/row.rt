@@ -3,11 +3,12 @@
 ghost use Rattle.std.specs.Borrow.{MutBor};
 ghost use Rattle.std.specs.Fn.{FnOnceReturnsAtMut};
 ghost use Rattle.std.specs.Option.{is_some};
-ghost use Rattle.std.specs.Prelude.{◌≡◌, ◌<◌, ◌≤◌, nat_lt, false, None, Some, true, cond, length};
+ghost use Rattle.std.specs.Prelude.{◌≡◌, ◌<◌, ◌≤◌, ℕ, nat_lt, false, None, Some, true, cond, length};
 ghost use Rattle.std.specs.Prelude.{option_copied, IfOk, IfSome, IsTrue, MatchBool, MatchOption};
 ghost use Rattle.bit_slots.specs.Keys.{stages, found, IsKeyInserted, IsRemoved, IsReplaced, IsUpdated, HasKey};
 ghost use Rattle.bit_slots.specs.SlotSets.{is_free, is_live, is_slot, HasSlots};
-ghost use Rattle.bit_slots.specs.SlotSets.{Joins, Leaves, Stays};
+ghost use Rattle.bit_slots.specs.SlotSets.{IsEmptied, Joins, Leaves, Stays};
+ghost use Rattle.bit_slots.specs.Keys.{Spent, Unused};
 ghost use Rattle.bittle.specs.PlainSet.{with_index};
 ghost use Rattle.bittle.specs.Shapes.{Fits};
 ghost use Rattle.bittle.specs.Values.{set_in};
@@ -31,6 +32,8 @@ impl<'a, V: Drop> Row<'a, V> {
         ensures within { result.slot < length self.old.slots.now }
         ensures stages { IsKeyInserted (stages self.old.slots.now) value result
             (stages self.new.slots.now) }
+        ensures generation { (k : ℕ) → stages self.old.slots.now slot k
+            ≡ cond (nat_lt k result.generation) Spent Unused }
         ensures free { Leaves is_free self.old.slots.now slot self.new.slots.now }
         ensures live { Joins is_live self.old.slots.now slot self.new.slots.now }
         ensures same_length { length self.new.slots.now ≡ length self.old.slots.now }
@@ -53,6 +56,8 @@ impl<'a, V: Drop> Row<'a, V> {
         ensures free { IfSome result (λ out. MatchBool out.1
             (Joins is_free self.old.slots.now key.slot self.new.slots.now)
             (Stays is_free self.old.slots.now self.new.slots.now)) }
+        ensures slots { IfSome result (λ _. IsEmptied self.old.slots.now key.slot
+            (nat_lt key.generation 4294967295) self.new.slots.now) }
         ensures again { IfSome result (λ _. is_slot is_free self.new.slots.now key.slot
             ≡ nat_lt key.generation 4294967295) }
         ensures same_length { length self.new.slots.now ≡ length self.old.slots.now }

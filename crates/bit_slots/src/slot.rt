@@ -3,9 +3,9 @@
 ghost use Rattle.std.specs.Option.{is_some};
 ghost use Rattle.std.specs.Borrow.{MutBor};
 ghost use Rattle.std.specs.Fn.{FnOnceReturnsAtMut};
-ghost use Rattle.std.specs.Prelude.{◌≡◌, ℕ, nat_lt, false, true, option_copied};
+ghost use Rattle.std.specs.Prelude.{◌≡◌, ℕ, cond, nat_lt, false, true, option_copied};
 ghost use Rattle.std.specs.Prelude.{IfSome, IsTrue, Some};
-ghost use Rattle.bit_slots.specs.Keys.{Unused, stage_of, found, removed, IsExchanged, IsFilled};
+ghost use Rattle.bit_slots.specs.Keys.{Spent, Unused, stage_of, found, removed, IsExchanged, IsFilled};
 ghost use Rattle.bit_slots.specs.Keys.{IsUpdatedIn};
 ghost use Rattle.bit_slots.specs.SlotSets.{is_free, is_live};
 
@@ -49,6 +49,8 @@ impl<V: Drop> Slot<V> {
     pub(crate) fn fill(&mut self, value: V) -> u32
         requires { is_free self.old ≡ true }
         ensures stages { IsFilled self.old value result self.new }
+        ensures generation { (k : ℕ)
+            → stage_of self.old k ≡ cond (nat_lt k result) Spent Unused }
         ensures live { is_live self.new ≡ true }
         ensures free { is_free self.new ≡ false }
     {

@@ -3,7 +3,7 @@ use Rattle.std.proofs.lemmas.List.{get_or-set_same, set-get_or}
 use Rattle.bit_slots.specs.Keys.{stage_at, found}
 use Rattle.bit_slots.specs.SlotSets.{is_free, is_live}
 use Rattle.bit_slots.proofs.SlotChanges.{emptied_in, found_past, removed_past, stood}
-use Rattle.bit_slots.proofs.SlotMarks.{freed, leaves, passes_as}
+use Rattle.bit_slots.proofs.SlotMarks.{emptied_free, freed, leaves, passes_as}
 use Rattle.bit_slots.proofs.row.Row.empty.Goals as goal
 
 pub returns-then-self-key-clause-found : goal.returns-then-self-key-clause-found
@@ -60,3 +60,10 @@ pub returns-clause-again : goal.returns-clause-again
 returns-clause-again g c =
     passes_as is_free _ c.args.key.slot c.index-self-key.result c.empty.new.self (omega arith)
     ∙ c.in_ok-value.ensures.free
+
+pub returns-clause-slots : goal.returns-clause-slots
+returns-clause-slots g c = (
+  emptied_free _ c.args.key.slot c.index-self-key.result c.empty.new.self (omega arith) _
+      c.in_ok-value.ensures.free c.in_ok-value.ensures.was_live,
+  returns-clause-live g c,
+)

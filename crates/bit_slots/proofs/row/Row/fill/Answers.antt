@@ -1,6 +1,7 @@
-use Rattle.std.proofs.Common.{refl}
+use Rattle.std.proofs.Common.{refl, ap, ◌∙◌}
+use Rattle.bit_slots.specs.Keys.{stage_at}
 use Rattle.bit_slots.specs.SlotSets.{is_free, is_live}
-use Rattle.bit_slots.proofs.SlotChanges.{filled_in}
+use Rattle.bit_slots.proofs.SlotChanges.{filled_in, stood}
 use Rattle.bit_slots.proofs.SlotMarks.{slot_passes, joins, leaves}
 use Rattle.bit_slots.proofs.row.Row.fill.Goals as goal
 
@@ -23,3 +24,9 @@ pub returns-clause-live : goal.returns-clause-live
 returns-clause-live g c =
     joins is_live _ c.args.slot c.index-self-slot.result c.fill-generation.new.self
     c.requires.within c.fill-generation.ensures.live
+
+pub returns-clause-generation : goal.returns-clause-generation
+returns-clause-generation g c k =
+    ap (λ o. stage_at o k) (stood _ c.args.slot c.index-self-slot.result c.fill-generation.new.self
+    c.requires.within c.args.slot refl)
+    ∙ c.fill-generation.ensures.generation k
