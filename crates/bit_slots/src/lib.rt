@@ -113,7 +113,7 @@ impl<'a, V: Drop, B: BitsOwned> Slots<'a, V, B> {
             found (stages self.new.row.slots.now key.slot key.generation) ≡ Some value) }
         ensures least { IfOk result (λ key. (slot : ℕ) → slot < key.slot
             → is_slot is_free self.old.row.slots.now slot ≡ false) }
-        ensures full { IfErr result (λ _. (slot : ℕ)
+        ensures full { IfErr result (λ _. (slot : ℕ) → slot < length self.old.row.slots.now
             → is_slot is_free self.old.row.slots.now slot ≡ false) }
         ensures others { (other : Key) → result ≢ Ok other
             → found (stages self.new.row.slots.now other.slot other.generation)
