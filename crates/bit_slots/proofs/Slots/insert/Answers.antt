@@ -11,7 +11,7 @@ use Rattle.bit_slots.proofs.Slots.insert.Goals as goal
 
 -- the slot that was found is free
 was_free : (g : Over) (c : In-Some g) →
-    is_slot is_free c.args.self.now.row.slots.now c.in-Some.slot ≡ true
+    is_slot is_free c.args.self.now.row.now c.in-Some.slot ≡ true
 was_free g c = sym (c.args.self.now.marks_free c.in-Some.slot) ∙ c.in-Some.ensures.2
 
 pub fill-key-requires-clause-within : goal.fill-key-requires-clause-within
@@ -47,5 +47,5 @@ returns-clause-count g c =
     let slot = c.in-Some.slot in
     count_joins is_live _ _ _ slot
     (omega (arith, c.bits.ensures.value old.fits, c.in-Some.ensures.1))
-    (free_lacks old.row.slots.now slot (was_free g (goal.at.returns-clause-count g c).In-Some))
+    (free_lacks old.row.now slot (was_free g (goal.at.returns-clause-count g c).In-Some))
     c.fill-key.ensures.live

@@ -19,7 +19,7 @@ returns-clause-count g c =
 pub returns-clause-none : goal.returns-clause-none
 returns-clause-none g c is key =
     let live : PlainSet = set_in g.B.Shape g.B.Order.Endian c.args.self.now.live in
-    let row = c.args.self.now.row.slots.now in
+    let row = c.args.self.now.row.now in
     let zero : size live ≡ 0 = eqb-true (size live) 0
     (sym (c.all_zeros.ensures.in_each_order g.B.Order.Endian.mirrored) ∙ is) in
     lacks_found row key.slot key.generation

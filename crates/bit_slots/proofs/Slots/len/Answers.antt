@@ -16,5 +16,5 @@ pub returns-clause-at_most : goal.returns-clause-at_most
 returns-clause-at_most g c = omega (
   arith,
   returns-clause-count g c,
-  count_at_most is_live c.args.self.now.row.slots.now g.B.Shape.type_capacity,
+  count_at_most is_live c.args.self.now.row.now g.B.Shape.type_capacity,
 )

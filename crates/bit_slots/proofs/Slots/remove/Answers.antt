@@ -51,12 +51,12 @@ pub returns-then-not-is_free-clause-count : goal.returns-then-not-is_free-clause
 returns-then-not-is_free-clause-count g c =
     let out = c.in_ok-value.ensures in
     count_leaves is_live _ _ _ c.args.key.slot (omega (arith, c.args.self.now.covers, out.within))
-    (found_holds c.args.self.now.row.slots.now c.args.key.slot c.args.key.generation _ out.found)
+    (found_holds c.args.self.now.row.now c.args.key.slot c.args.key.generation _ out.found)
     out.live
 
 pub returns-clause-count : goal.returns-clause-count
 returns-clause-count g c =
     let out = c.in_ok-value.ensures in
     count_leaves is_live _ _ _ c.args.key.slot (omega (arith, c.args.self.now.covers, out.within))
-    (found_holds c.args.self.now.row.slots.now c.args.key.slot c.args.key.generation _ out.found)
+    (found_holds c.args.self.now.row.now c.args.key.slot c.args.key.generation _ out.found)
     out.live
