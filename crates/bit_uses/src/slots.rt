@@ -1,19 +1,22 @@
 //! Callers of slots with generations: iterators over the values, tables beside the slots, and
 //! counts.
 
-ghost use Rattle.std.specs.Prelude.{◌≡◌, ◌≢◌, ◌+◌, ◌≤◌, ℕ, false, length, map, slice_get, sum};
+ghost use Rattle.std.specs.Prelude.{◌≡◌, ◌≢◌, ◌+◌, ◌<◌, ◌≤◌, ℕ, false, length, map, slice_get, sum};
+ghost use Rattle.std.specs.Prelude.{List, [], ◌∷◌, if◌then◌else◌};
 ghost use Rattle.std.specs.Prelude.{true, is_some, option_map, IfOk, IfSome, None, Some};
 ghost use Rattle.bit_slots.specs.Entries.{entries};
-ghost use Rattle.bit_slots.specs.Keys.{found, stages};
+ghost use Rattle.bit_slots.specs.KeyLaws.{Call, IsHistory, Inserts, Removes, Replaces, Refuses};
+ghost use Rattle.bit_slots.specs.Keys.{found, stages, Stages};
 ghost use Rattle.bit_slots.specs.SlotSets.{live_count};
+ghost use Rattle.bit_slots.specs.declared.Key.{Key};
 
-use bit_slots::{Key, Slot, Slots};
+use bit_slots::{Key, Slot, Slots, key_laws};
 use bittle::{Bits, BitsOwned};
 
 /// Returns a key that finds the value `wanted`, or `None` if no key finds it.
 pub fn key_of<B: BitsOwned>(slots: &Slots<u64, B>, wanted: u64) -> Option<Key>
     ensures { IfSome result (λ key.
-        found (stages slots.now.row.slots.now key.slot key.generation) ≡ Some wanted) }
+        found (stages slots.now.row.now key.slot key.generation) ≡ Some wanted) }
 {
     for (key, value) in slots.iter() {
         if *value == wanted {
@@ -34,7 +37,7 @@ pub fn find_and_get<B: BitsOwned>(slots: &Slots<u64, B>, wanted: u64) -> Option<
 
 /// Returns the sum of the values.
 pub fn total<B: BitsOwned>(slots: &Slots<u32, B>) -> u64
-    ensures { result ≡ sum (map (λ entry. entry.1) (entries slots.now.row.slots.now)) }
+    ensures { result ≡ sum (map (λ entry. entry.1) (entries slots.now.row.now)) }
 {
     let mut total = 0u64;
     for (_, value) in slots.iter() {
@@ -46,7 +49,7 @@ pub fn total<B: BitsOwned>(slots: &Slots<u32, B>) -> u64
 /// Copies each value to the entry of `table` at the index of its slot. The table has an entry for
 /// each slot.
 pub fn copy_values<B: BitsOwned>(slots: &Slots<u64, B>, table: &mut [u64])
-    requires { length slots.now.row.slots.now ≤ length table.old }
+    requires { length slots.now.row.now ≤ length table.old }
     ensures { length table.new ≡ length table.old }
 {
     for (key, value) in slots.iter() {
@@ -57,7 +60,7 @@ pub fn copy_values<B: BitsOwned>(slots: &Slots<u64, B>, table: &mut [u64])
 /// Returns whether `key` finds a value. If it does, the call counts one more use in the entry of
 /// `uses` at the index of the key's slot, unless that entry is `u64::MAX`.
 pub fn count_use<V: Drop, B: BitsOwned>(slots: &Slots<V, B>, uses: &mut [u64], key: Key) -> bool
-    requires { length slots.now.row.slots.now ≤ length uses.old }
+    requires { length slots.now.row.now ≤ length uses.old }
     ensures others { (other : ℕ) → other ≢ key.slot
         → slice_get uses.new other ≡ slice_get uses.old other }
     ensures stays { result ≡ false → uses.new ≡ uses.old }
@@ -78,7 +81,7 @@ pub fn insert_used<V: Drop, B: BitsOwned>(
     uses: &mut [u64],
     value: V,
 ) -> Result<u64, V>
-    requires { length slots.old.row.slots.now ≤ length uses.old }
+    requires { length slots.old.row.now ≤ length uses.old }
     ensures { length uses.new ≡ length uses.old }
 {
     let slot = slots.insert(value)?.slot() as usize;
@@ -89,7 +92,7 @@ pub fn insert_used<V: Drop, B: BitsOwned>(
 /// Returns the sum of the uses of the slots that hold a value, but at most `u64::MAX`. The table
 /// has an entry for each slot. The loop reads the set of these slots, and no slot.
 pub fn uses_of_live<V: Drop, B: BitsOwned>(slots: &Slots<V, B>, uses: &[u64]) -> u64
-    requires { length slots.now.row.slots.now ≤ length uses.now }
+    requires { length slots.now.row.now ≤ length uses.now }
 {
     let mut total = 0u64;
     for slot in slots.live().iter_ones() {
@@ -102,7 +105,7 @@ pub fn uses_of_live<V: Drop, B: BitsOwned>(slots: &Slots<V, B>, uses: &[u64]) ->
 /// value in `Err` if no slot is free.
 pub fn insert_and_count<V: Drop, B: BitsOwned>(slots: &mut Slots<V, B>, value: V) -> Result<u32, V>
     ensures { IfOk result (λ count.
-        count ≡ live_count B.type_capacity slots.old.row.slots.now + 1) }
+        count ≡ live_count B.type_capacity slots.old.row.now + 1) }
 {
     slots.insert(value)?;
     Ok(slots.len())
@@ -132,10 +135,79 @@ pub fn insert_into_new(value: u64) -> bool
     Slots::<u64, u64>::over(&mut row).insert(value).is_ok()
 }
 
+/// Puts a value into the least free slot of `row`, and returns its key, or `None` if no slot is free.
+/// The lender of `row` sees the value: its key finds it in a table that is made over `row` later.
+pub fn fill_lent(row: &mut [Slot<u64>], value: u64) -> Option<Key>
+    requires { length row.old ≤ 64 }
+    ensures { IfSome result (λ key.
+        found (stages row.new key.slot key.generation) ≡ Some value) }
+{
+    let mut slots = Slots::<u64, u64>::over(row);
+    slots.insert(value).ok()
+}
+
+/// Inserts a value and then replaces it by another. Returns the key, or the value in `Err` if no
+/// slot is free. The clause says that the two calls, with what they return, are a history of calls:
+/// each law of `bit_slots::key_laws` holds of them.
+pub fn insert_and_replace<V: Drop, B: BitsOwned>(
+    slots: &mut Slots<V, B>,
+    first: V,
+    second: V,
+) -> Result<Key, V>
+    ensures { IfOk result (λ key. IsHistory (stages slots.old.row.now)
+        (Inserts first key ∷ Replaces key second ∷ []) (stages slots.new.row.now)) }
+{
+    let key = slots.insert(first)?;
+    slots.replace(key, second)?;
+    Ok(key)
+}
+
+/// Removes `key`, sets the value of `other` to 0, and returns whether `other` finds a value. The
+/// clause says that the two calls are a history of calls, as that of [`insert_and_replace`].
+pub fn remove_and_update<B: BitsOwned>(slots: &mut Slots<u64, B>, key: Key, other: Key) -> bool
+    ensures { IsHistory (stages slots.old.row.now)
+        (Removes key ∷ (if result then Replaces other 0 else Refuses) ∷ [])
+        (stages slots.new.row.now) }
+{
+    slots.remove(key);
+    if slots.update(other, |value| *value = 0) {
+        return true;
+    }
+    false
+}
+
+/// Removes `key`, inserts a value, and returns whether `key` finds a value then. The result is
+/// `Some(false)`: a removed key is not given again. Returns `None` if `key` finds no value to remove,
+/// or no slot is free.
+pub fn remove_and_insert<V: Drop, B: BitsOwned>(
+    slots: &mut Slots<V, B>,
+    key: Key,
+    value: V,
+) -> Option<bool>
+    ensures { IfSome result (λ is_found. is_found ≡ false) }
+{
+    slots.remove(key)?;
+    slots.insert(value).ok()?;
+    Some(slots.contains(key))
+}
+
+/// States that in any sequence of calls, a key that was given and then removed is not given again,
+/// and finds nothing after the calls.
+pub fn removed_keys_are_not_used_again()
+    ensures { (before after : Stages ℕ) (calls : List (Call ℕ)) → IsHistory before calls after
+        → (key : Key) (value other : ℕ) (i j k : ℕ) → i < j → j < k
+        → slice_get calls i ≡ Some (Inserts value key) → slice_get calls j ≡ Some (Removes key)
+        → (slice_get calls k ≡ Some (Inserts other key) → ⊥)
+        × (found (after key.slot key.generation) ≡ None) }
+{
+    key_laws::keys_are_given_once::<u64>();
+    key_laws::given_then_removed_keys_find_nothing::<u64>();
+}
+
 /// Returns how many slots hold no value. The difference is never negative.
 pub fn slots_without_value<V: Drop, B: BitsOwned>(slots: &Slots<V, B>) -> u32
-    ensures { result + live_count B.type_capacity slots.now.row.slots.now
-        ≡ length slots.now.row.slots.now }
+    ensures { result + live_count B.type_capacity slots.now.row.now
+        ≡ length slots.now.row.now }
 {
     slots.capacity() - slots.len()
 }
@@ -145,14 +217,14 @@ pub fn slots_without_value<V: Drop, B: BitsOwned>(slots: &Slots<V, B>) -> u32
 pub struct Counted<'a, B: BitsOwned> {
     slots: Slots<'a, u64, B>,
     uses: [u32; 64],
-    pub ghost covers: { length slots.row.slots.now ≤ 64 },
+    pub ghost covers: { length slots.row.now ≤ 64 },
 }
 
 impl<'a, B: BitsOwned> Counted<'a, B> {
     /// Inserts a value and returns its key, or `None` if no slot is free.
     pub fn insert(&mut self, value: u64) -> Option<Key>
         ensures { IfSome result (λ key.
-            found (stages self.new.slots.row.slots.now key.slot key.generation) ≡ Some value) }
+            found (stages self.new.slots.row.now key.slot key.generation) ≡ Some value) }
     {
         let Ok(key) = self.slots.insert(value) else {
             return None;
@@ -166,8 +238,8 @@ impl<'a, B: BitsOwned> Counted<'a, B> {
     /// if the key finds no value.
     pub fn remove(&mut self, key: Key) -> Option<(u64, u32)>
         ensures value { option_map (λ it. it.0) result
-            ≡ found (stages self.old.slots.row.slots.now key.slot key.generation) }
-        ensures gone { found (stages self.new.slots.row.slots.now key.slot key.generation) ≡ None }
+            ≡ found (stages self.old.slots.row.now key.slot key.generation) }
+        ensures gone { found (stages self.new.slots.row.now key.slot key.generation) ≡ None }
     {
         let value = self.slots.remove(key)?;
         Some((value, self.uses[key.slot() as usize]))
@@ -176,7 +248,7 @@ impl<'a, B: BitsOwned> Counted<'a, B> {
     /// Replaces the value of a key, and returns how often its slot was used, or `None` if the key
     /// finds no value.
     pub fn replace(&mut self, key: Key, value: u64) -> Option<u32>
-        ensures { found (stages self.new.slots.row.slots.now key.slot key.generation)
+        ensures { found (stages self.new.slots.row.now key.slot key.generation)
             ≡ option_map (λ _. value) result }
     {
         match self.slots.replace(key, value) {
@@ -189,7 +261,7 @@ impl<'a, B: BitsOwned> Counted<'a, B> {
     /// slot was used, or `None` if the key finds no value.
     pub fn step(&mut self, key: Key) -> Option<u32>
         ensures { is_some result
-            ≡ is_some (found (stages self.new.slots.row.slots.now key.slot key.generation)) }
+            ≡ is_some (found (stages self.new.slots.row.now key.slot key.generation)) }
     {
         if self
             .slots

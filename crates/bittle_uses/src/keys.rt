@@ -111,7 +111,7 @@ pub fn count_and_ask<B: BitsOwned>(slots: &mut Slots<u64, B>, key: Key) -> bool
 
 /// Counts the keys that find a value, by an iterator.
 pub fn how_many<V: Drop, B: BitsOwned>(slots: &Slots<V, B>) -> usize
-    ensures { result ≡ length (entries slots.now.row.slots.now) }
+    ensures { result ≡ length (entries slots.now.row.now) }
 {
     slots.iter().count()
 }
