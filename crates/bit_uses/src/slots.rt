@@ -135,6 +135,22 @@ pub fn insert_into_new(value: u64) -> bool
     Slots::<u64, u64>::over(&mut row).insert(value).is_ok()
 }
 
+/// Inserts a value three times into a table of two new slots, and returns whether each call gave a
+/// key. The first two calls always do, and the third never does.
+pub fn insert_thrice(value: u64) -> (bool, bool, bool)
+    ensures { result ≡ (true, true, false) }
+{
+    let mut row = [Slot::new(), Slot::new()];
+    let mut slots = Slots::<u64, u64>::over(&mut row);
+    let Ok(_) = slots.insert(value) else {
+        return (false, false, false);
+    };
+    let Ok(_) = slots.insert(value) else {
+        return (true, false, false);
+    };
+    (true, true, slots.insert(value).is_ok())
+}
+
 /// Puts a value into the least free slot of `row`, and returns its key, or `None` if no slot is free.
 /// The lender of `row` sees the value: its key finds it in a table that is made over `row` later.
 pub fn fill_lent(row: &mut [Slot<u64>], value: u64) -> Option<Key>
