@@ -5,10 +5,10 @@ ghost use Rattle.std.specs.Fn.{FnOnceReturnsAtMut};
 ghost use Rattle.std.specs.Option.{is_some};
 ghost use Rattle.std.specs.Prelude.{◌≡◌, ◌<◌, ◌≤◌, ℕ, nat_lt, false, None, Some, true, cond, length};
 ghost use Rattle.std.specs.Prelude.{option_copied, IfOk, IfSome, IsTrue, MatchBool, MatchOption};
-ghost use Rattle.bit_slots.specs.Keys.{stages, found, IsKeyInserted, IsRemoved, IsReplaced, IsUpdated, HasKey};
+ghost use Rattle.bit_slots.specs.Keys.{stages, found, IsKeyInserted, IsRemoved, IsReplaced};
+ghost use Rattle.bit_slots.specs.Keys.{IsUpdated, HasKey, Spent, Unused};
 ghost use Rattle.bit_slots.specs.SlotSets.{is_free, is_live, is_slot, HasSlots};
 ghost use Rattle.bit_slots.specs.SlotSets.{IsEmptied, Joins, Leaves, Stays};
-ghost use Rattle.bit_slots.specs.Keys.{Spent, Unused};
 ghost use Rattle.bittle.specs.PlainSet.{with_index};
 ghost use Rattle.bittle.specs.Shapes.{Fits};
 ghost use Rattle.bittle.specs.Values.{set_in};
@@ -23,8 +23,7 @@ pub(crate) fn fill<V: Drop>(row: &mut [Slot<V>], slot: u32, value: V) -> Key
     requires free { is_slot is_free row.old slot ≡ true }
     ensures slot { result.slot ≡ slot }
     ensures within { result.slot < length row.old }
-    ensures stages { IsKeyInserted (stages row.old) value result
-        (stages row.new) }
+    ensures stages { IsKeyInserted (stages row.old) value result (stages row.new) }
     ensures generation { (k : ℕ) → stages row.old slot k
         ≡ cond (nat_lt k result.generation) Spent Unused }
     ensures free { Leaves is_free row.old slot row.new }
@@ -64,8 +63,7 @@ pub(crate) fn empty<V: Drop>(row: &mut [Slot<V>], key: Key) -> Option<(V, bool)>
 // Replaces the value of a key and returns the old one. If the key finds no value, changes
 // nothing and returns the new value in `Err`.
 pub(crate) fn replace<V: Drop>(row: &mut [Slot<V>], key: Key, value: V) -> Result<V, V>
-    ensures stages { IsReplaced (stages row.old) key value result
-        (stages row.new) }
+    ensures stages { IsReplaced (stages row.old) key value result (stages row.new) }
     ensures within { IfOk result (λ _. key.slot < length row.old) }
     ensures free { Stays is_free row.old row.new }
     ensures live { Stays is_live row.old row.new }
