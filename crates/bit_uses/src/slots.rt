@@ -207,6 +207,19 @@ pub fn remove_and_insert<V: Drop, B: BitsOwned>(
     Some(slots.contains(key))
 }
 
+/// Removes `key`, inserts a value, and returns the value's key, or `None` as
+/// [`remove_and_insert`]. If the value gets the slot of `key`, its generation is greater.
+pub fn insert_after<V: Drop, B: BitsOwned>(
+    slots: &mut Slots<V, B>,
+    key: Key,
+    value: V,
+) -> Option<Key>
+    ensures { IfSome result (λ next. next.slot ≡ key.slot → key.generation < next.generation) }
+{
+    slots.remove(key)?;
+    slots.insert(value).ok()
+}
+
 /// States that in any sequence of calls, a key that was given and then removed is not given again,
 /// and finds nothing after the calls.
 pub fn removed_keys_are_not_used_again()
