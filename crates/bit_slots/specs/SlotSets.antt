@@ -60,13 +60,13 @@ Stays test before after = (k : ℕ) → is_slot test after k ≡ is_slot test be
 abbrev pub AreSameSlots : {V : Type 0} → List (Slot V) → List (Slot V) → Type 0
 AreSameSlots before after = Stays is_free before after × Stays is_live before after
 
--- a value was put into the slot `slot`: it is not free now, and holds a value; no other slot changes
--- in this
+-- a value was put into the slot `slot`: it is not free now, and holds a value; each other slot is
+-- free, or holds a value, exactly as before
 abbrev pub IsTaken : {V : Type 0} → List (Slot V) → ℕ → List (Slot V) → Type 0
 IsTaken before slot after = Leaves is_free before slot after × Joins is_live before slot after
 
--- the value of the slot `slot` was taken out: the slot is free now if `again` is true, and holds no
--- value; no other slot changes in this
+-- the value of the slot `slot` was taken out: the slot holds no value now, and is free if `again` is
+-- true; each other slot is free, or holds a value, exactly as before
 abbrev pub IsEmptied : {V : Type 0} → List (Slot V) → ℕ → Bool → List (Slot V) → Type 0
 IsEmptied before slot again after =
     ((k : ℕ) → is_slot is_free after k ≡ (((k == slot) && again) || is_slot is_free before k))
