@@ -22,7 +22,7 @@ ghost use Rattle.std.specs.Option.{is_some};
 ghost use Rattle.std.specs.Prelude.{◌≡◌, ◌≢◌, ◌==◌, ◌+◌, ◌<◌, ◌≤◌, ℕ, suc, false, true, length};
 ghost use Rattle.std.specs.Prelude.{cond, nat_lt, option_copied, slice_get, IfErr, IfOk, IfSome, IsTrue};
 ghost use Rattle.std.specs.Prelude.{MatchOption, MatchResult, None, Ok, Some};
-ghost use Rattle.bittle.specs.PlainSet.{ascending};
+ghost use Rattle.bittle.specs.PlainSet.{ascending, size};
 ghost use Rattle.bittle.specs.Shapes.{Fits};
 ghost use Rattle.bittle.specs.Values.{set_in};
 ghost use Rattle.bit_slots.specs.Entries.{entries, HasEntry, IsEntry};
@@ -299,6 +299,8 @@ impl<'a, V: Drop, B: BitsOwned> Slots<'a, V, B> {
             self.now.row.now }
         ensures within { All (λ slot. slot < length self.now.row.now)
             (ascending (set_in B.Shape B.Order.Endian result.now)) }
+        ensures count { size (set_in B.Shape B.Order.Endian result.now)
+            ≡ live_count B.type_capacity self.now.row.now }
     {
         &self.live
     }
