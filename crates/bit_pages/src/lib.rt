@@ -95,8 +95,7 @@ impl<B: BitsOwned> Pages<B> {
     /// checks this. With capacity 0 there is no page.
     pub fn new() -> Pages<B>
         requires { IsTrue B.indexable }
-        ensures set { set_in B.Shape B.Order.Endian result.map ≡ empty_set B.type_capacity }
-        ensures count { size (set_in B.Shape B.Order.Endian result.map) ≡ 0 }
+        ensures { set_in B.Shape B.Order.Endian result.map ≡ empty_set B.type_capacity }
     {
         Pages::with_taken(B::zeros())
     }

@@ -212,6 +212,7 @@ pub fn count_of_map<B: BitsOwned>(map: B) -> u32
 }
 
 /// Counts the taken pages of a new allocator. The result is always 0.
+#[tactic(auto, using(bittle::proofs::CallerSets::size_empty))]
 pub fn count_of_new<B: BitsOwned>() -> u32
     requires { IsTrue B.indexable }
     ensures { result ≡ 0 }
