@@ -1,8 +1,7 @@
 -- How many pages there are: requests do not change this number, and answers are below it.
 use Rattle.std.proofs.Common.{◌≡◌, ℕ, zero, suc, ◌+◌, ◌<◌, ◌≤◌, ◌⊎◌, Some, List, [], ◌∷◌, inl, inr, refl, ◌∙◌, arith}
 use Rattle.std.specs.Prelude.{slice_get}
-use Rattle.bittle.specs.PlainSet.{PlainSet, complement}
-use Rattle.bittle_ext.specs.Runs.{IsFirstRun, IsRun}
+use Rattle.bittle.specs.PlainSet.{PlainSet}
 use Rattle.bit_pages.specs.PageLaws.{IsFree, IsLeastFree}
 use Rattle.bit_pages.specs.Pages.{answer_to, state_after, request_answers, final_state}
 use Rattle.bit_pages.specs.declared.Answer.TheVariants as answer

@@ -1,7 +1,6 @@
 -- Laws of the page machine, for all requests and all lists of requests.
 use Rattle.std.specs.List.{filter, list_any, IsDistinct}
-use Rattle.std.specs.Option.{option_map}
-use Rattle.std.specs.Prelude.{◌≡◌, ℕ, zero, suc, ◌+◌, ◌<◌, ◌≤◌, ◌↔◌, ◌⊎◌, Bool, true, false, not, ◌&&◌, ◌||◌, ◌==◌, Some, List, [], ◌∷◌, ◌++◌, slice_get, take}
+use Rattle.std.specs.Prelude.{◌≡◌, ℕ, zero, suc, ◌+◌, ◌<◌, ◌≤◌, ◌↔◌, ◌⊎◌, Bool, true, false, not, ◌&&◌, ◌||◌, ◌==◌, Some, List, [], ◌∷◌, ◌++◌, slice_get}
 use Rattle.bittle.specs.PlainSet.{PlainSet, complement, is_in_span, size}
 use Rattle.bittle_ext.specs.Runs.{IsFirstRun, IsRun}
 use Rattle.bit_histories.specs.Histories.{total}

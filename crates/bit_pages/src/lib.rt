@@ -207,6 +207,8 @@ impl<B: BitsOwned> Pages<B> {
             ≡ state_after (set_in B.Shape B.Order.Endian self.old.map) (Request.GiveBack page) }
         ensures whole { is_ok result
             ≡ is_taken (set_in B.Shape B.Order.Endian self.old.map) page }
+        ensures room { IsOk result
+            → size (set_in B.Shape B.Order.Endian self.new.map) < B.type_capacity }
     {
         if !self.is_taken(page) {
             return Err(NotTaken);

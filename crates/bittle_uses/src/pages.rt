@@ -430,6 +430,17 @@ pub fn take_chosen<B: BitsOwned>(pages: &mut Pages<B>, page: u32) -> bool
     pages.take_at(page)
 }
 
+/// Gives back a page, and takes the least free page if it was taken. Returns whether this page was
+/// found: the result is always `true`, also if nothing was given back.
+pub fn give_back_and_take<B: BitsOwned>(pages: &mut Pages<B>, page: u32) -> bool
+    ensures { result ≡ true }
+{
+    match pages.give_back(page) {
+        Ok(()) => pages.take().is_some(),
+        Err(_) => true,
+    }
+}
+
 /// Gives back a page and then a run of pages, and returns whether each was taken. The clause says
 /// that the two calls, with what they return, are a history of calls, as that of [`take_both`].
 pub fn give_both_back<B: BitsOwned>(
