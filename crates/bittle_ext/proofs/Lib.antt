@@ -13,6 +13,8 @@ mod DigitTexts
 mod EdgeRuns
 mod EdgeWords
 mod GrownSets
+pub mod KeptMembers
+pub mod KeptSizes
 mod MaximalRuns
 pub mod NumberBits
 mod OneBit

@@ -5,6 +5,7 @@ ghost use Rattle.bittle_ext.specs.Between.{members_to, Combines};
 ghost use Rattle.bittle.specs.PlainSet.{contains, full_set, size};
 ghost use Rattle.bittle.specs.SetOperations.{first_alone, just_one};
 ghost use Rattle.bittle.specs.Values.{set_in, set_mirrored, ShapeFits};
+ghost use Rattle.bittle_ext.specs.SetRelations.{AreDisjoint, IsSubset};
 
 use crate::combinations::{Replacement, combine_with};
 use bittle::{BigEndian, Bits, BitsMut, BitsOwned};
@@ -48,6 +49,11 @@ pub trait BitsCombineExt: BitsMut {
             < size (set_in Self.Shape Self.Order.Endian self.new) }
         ensures at_least { size (set_in Self.Shape Self.Order.Endian self.old)
             ≤ size (set_in Self.Shape Self.Order.Endian self.new) }
+        ensures kept { IsSubset (set_in Self.Shape Self.Order.Endian self.old)
+            (set_in Self.Shape Self.Order.Endian self.new) }
+        ensures added { (B.big other.now).capacity ≤ (Self.big self.old).capacity
+            → IsSubset (set_in B.Shape B.Order.Endian other.now)
+            (set_in Self.Shape Self.Order.Endian self.new) }
         ensures stays { Self.loan self.old ≡ Self.loan self.new }
     {
         combine_with::<Self, B, Self::Order, B::Order, Union>(self, other)
@@ -72,6 +78,10 @@ pub trait BitsCombineExt: BitsMut {
             < size (set_in Self.Shape Self.Order.Endian self.old) }
         ensures at_most { size (set_in Self.Shape Self.Order.Endian self.new)
             ≤ size (set_in Self.Shape Self.Order.Endian self.old) }
+        ensures subset { IsSubset (set_in Self.Shape Self.Order.Endian self.new)
+            (set_in Self.Shape Self.Order.Endian self.old) }
+        ensures within { IsSubset (set_in Self.Shape Self.Order.Endian self.new)
+            (set_in B.Shape B.Order.Endian other.now) }
         ensures stays { Self.loan self.old ≡ Self.loan self.new }
     {
         combine_with::<Self, B, Self::Order, B::Order, Conjunction>(self, other)
@@ -95,6 +105,10 @@ pub trait BitsCombineExt: BitsMut {
             < size (set_in Self.Shape Self.Order.Endian self.old) }
         ensures at_most { size (set_in Self.Shape Self.Order.Endian self.new)
             ≤ size (set_in Self.Shape Self.Order.Endian self.old) }
+        ensures subset { IsSubset (set_in Self.Shape Self.Order.Endian self.new)
+            (set_in Self.Shape Self.Order.Endian self.old) }
+        ensures apart { AreDisjoint (set_in Self.Shape Self.Order.Endian self.new)
+            (set_in B.Shape B.Order.Endian other.now) }
         ensures stays { Self.loan self.old ≡ Self.loan self.new }
     {
         combine_with::<Self, B, Self::Order, B::Order, Difference>(self, other)
@@ -135,6 +149,8 @@ pub trait BitsCombineExt: BitsMut {
         ensures each { (i : ℕ) → i < (Self.big self.old).capacity
             → contains (set_in Self.Shape Self.Order.Endian self.new) i
             ≡ (set_in B.Shape B.Order.Endian other.now).has i }
+        ensures at_most { size (set_in Self.Shape Self.Order.Endian self.new)
+            ≤ size (set_in B.Shape B.Order.Endian other.now) }
         ensures stays { Self.loan self.old ≡ Self.loan self.new }
     {
         combine_with::<Self, B, Self::Order, B::Order, Replacement>(self, other);
@@ -154,8 +170,13 @@ pub trait BitsCombineExt: BitsMut {
         Self: BitsOwned,
         requires indexable { IsTrue Self.indexable }
         requires other_fits { ShapeFits B.Shape other.now }
-        ensures { set_in Self.Shape Self.Order.Endian result
+        ensures set { set_in Self.Shape Self.Order.Endian result
             ≡ members_to Self.type_capacity (set_in B.Shape B.Order.Endian other.now) }
+        ensures each { (i : ℕ) → i < Self.type_capacity
+            → contains (set_in Self.Shape Self.Order.Endian result) i
+            ≡ (set_in B.Shape B.Order.Endian other.now).has i }
+        ensures at_most { size (set_in Self.Shape Self.Order.Endian result)
+            ≤ size (set_in B.Shape B.Order.Endian other.now) }
     {
         let mut set = Self::zeros();
         set.copy_from(other);

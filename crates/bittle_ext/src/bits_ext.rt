@@ -1,6 +1,7 @@
 //! Everyday calls that read a set.
 
-ghost use Rattle.std.specs.Prelude.{◌≡◌, ◌+◌, ◌-◌, ◌<◌, ◌≤◌, IfSome, MatchBool, slice_get};
+ghost use Rattle.std.specs.Prelude.{◌≡◌, ◌+◌, ◌-◌, ◌<◌, ◌≤◌, IfSome, MatchBool, MatchOption};
+ghost use Rattle.std.specs.Prelude.{slice_get, true};
 ghost use Rattle.bittle_ext.specs.RangeMembers.{HasSomeIn, HasAllIn, LacksSomeIn, members_within};
 ghost use Rattle.bittle_ext.specs.Runs.{IsFirstRun};
 ghost use Rattle.bittle.specs.PlainSet.{ascending, complement, members_below, size};
@@ -163,6 +164,8 @@ pub trait BitsExt: Bits + Sized {
         ensures at_most { result ≤ (Self.big self.now).capacity }
         ensures at_most_index { result ≤ index }
         ensures at_most_all { result ≤ size (set_in Self.Shape Self.Order.Endian self.now) }
+        ensures below_member { (set_in Self.Shape Self.Order.Endian self.now).has index ≡ true
+            → result < size (set_in Self.Shape Self.Order.Endian self.now) }
     {
         self.count_ones_in_range_in::<Self::Order>(
             0,
@@ -185,6 +188,10 @@ pub trait BitsExt: Bits + Sized {
         ensures value { result
             ≡ slice_get (ascending (set_in Self.Shape Self.Order.Endian self.now)) rank }
         ensures below { IfSome result (λ index. index < (Self.big self.now).capacity) }
+        ensures found { MatchOption result
+            (size (set_in Self.Shape Self.Order.Endian self.now) ≤ rank)
+            (λ index. ((set_in Self.Shape Self.Order.Endian self.now).has index ≡ true)
+            × (members_below (set_in Self.Shape Self.Order.Endian self.now) index ≡ rank)) }
     {
         let width = word_width::<Self>();
         match word_of_rank::<Self, Self::Order>(self, rank) {

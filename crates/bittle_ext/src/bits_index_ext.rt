@@ -1,7 +1,8 @@
 //! Indexes that do not wrap: calls on one bit that refuse an index at or past the capacity.
 
 ghost use Rattle.std.specs.Option.{is_some};
-ghost use Rattle.std.specs.Prelude.{◌≡◌, ◌+◌, ◌<◌, ◌↔◌, cond, min, not, IfSome, IsTrue, MatchOption};
+ghost use Rattle.std.specs.Prelude.{◌≡◌, ◌+◌, ◌<◌, ◌↔◌, cond, min, not, false, true};
+ghost use Rattle.std.specs.Prelude.{IfSome, IsTrue, MatchOption};
 ghost use Rattle.bittle.specs.PlainSet.{size, with_index, without_index};
 ghost use Rattle.bittle.specs.Values.{set_in, ShapeFits};
 
@@ -130,13 +131,15 @@ pub trait BitsIndexMutExt: BitsMut + Sized {
     /// seen.try_insert(65);                                // None: there is no bit 65
     /// ```
     #[inline]
-    #[tactic(auto, using(bittle::proofs::CallerSets::contains_within))]
+    #[tactic(auto, using(bittle::proofs::CallerSets::contains_within, crate::proofs::CallerMembers::has_after_set))]
     final fn try_insert(&mut self, index: u32) -> Option<bool>
         requires { IsTrue Self.indexable }
         ensures within { IsTrue (is_some result)
             ↔ index < min (Self.big self.old).capacity 4294967295 }
         ensures was_unset { IfSome result (λ unset.
             unset ≡ not ((set_in Self.Shape Self.Order.Endian self.old).has index)) }
+        ensures has { IfSome result (λ _.
+            (set_in Self.Shape Self.Order.Endian self.new).has index ≡ true) }
         ensures set { let before = set_in Self.Shape Self.Order.Endian self.old in
             set_in Self.Shape Self.Order.Endian self.new
             ≡ cond (is_some result) (with_index before index) before }
@@ -162,13 +165,15 @@ pub trait BitsIndexMutExt: BitsMut + Sized {
     /// seen.try_remove(8);                                 // None: there is no bit 8
     /// ```
     #[inline]
-    #[tactic(auto, using(bittle::proofs::CallerSets::contains_within))]
+    #[tactic(auto, using(bittle::proofs::CallerSets::contains_within, crate::proofs::CallerMembers::has_after_clear))]
     final fn try_remove(&mut self, index: u32) -> Option<bool>
         requires { IsTrue Self.indexable }
         ensures within { IsTrue (is_some result)
             ↔ index < min (Self.big self.old).capacity 4294967295 }
         ensures was_set { IfSome result (λ set.
             set ≡ (set_in Self.Shape Self.Order.Endian self.old).has index) }
+        ensures lacks { IfSome result (λ _.
+            (set_in Self.Shape Self.Order.Endian self.new).has index ≡ false) }
         ensures set { let before = set_in Self.Shape Self.Order.Endian self.old in
             set_in Self.Shape Self.Order.Endian self.new
             ≡ cond (is_some result) (without_index before index) before }

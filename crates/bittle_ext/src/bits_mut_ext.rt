@@ -5,6 +5,7 @@ ghost use Rattle.std.specs.Prelude.{MatchOption};
 ghost use Rattle.std.specs.Iterator.{Drains, IsFinite};
 ghost use Rattle.std.specs.Iterator.Runs.{WholeRun};
 ghost use Rattle.std.specs.List.{fold};
+ghost use Rattle.bittle_ext.specs.SetRelations.{IsSubset};
 ghost use Rattle.bittle_ext.specs.Runs.{IsFirstRun};
 ghost use Rattle.bittle_ext.specs.Calls.{IsCallableBelow};
 ghost use Rattle.bittle_ext.specs.Changes.{with_index_assigned, with_index_toggled};
@@ -12,7 +13,8 @@ ghost use Rattle.bittle_ext.specs.Changes.{with_span_assigned, Retains};
 ghost use Rattle.bittle.specs.PlainSet.{contains, complement, members_below, size};
 ghost use Rattle.bittle.specs.PlainSet.{with_index, without_index};
 ghost use Rattle.bittle.specs.PlainSet.{with_span, without_span, with_span_toggled};
-ghost use Rattle.bittle.specs.Searches.{IsFirstIn, IsLastIn};
+ghost use Rattle.bittle.specs.Searches.{IsFirstIn, IsLastIn, NoneIn};
+ghost use Rattle.bittle_ext.specs.RangeMembers.{HasAllIn};
 ghost use Rattle.bittle.specs.Values.{set_in, set_mirrored, ShapeFits};
 
 use crate::bits_ext::BitsExt;
@@ -101,10 +103,13 @@ pub trait BitsMutExt: BitsMut + Sized {
     /// word.assign(1, true);                               // word is 0b0011
     /// ```
     #[inline]
+    #[tactic(auto, using(bittle::proofs::CallerChanges::contains_after_set, bittle::proofs::CallerChanges::contains_after_clear))]
     final fn assign(&mut self, index: u32, value: bool)
         requires { IsTrue Self.indexable }
         ensures set { set_in Self.Shape Self.Order.Endian self.new
             ≡ with_index_assigned (set_in Self.Shape Self.Order.Endian self.old) index value }
+        ensures here { 0 < (Self.big self.old).capacity
+            → contains (set_in Self.Shape Self.Order.Endian self.new) index ≡ value }
         ensures stays { Self.loan self.old ≡ Self.loan self.new }
     {
         if value {
@@ -360,6 +365,8 @@ pub trait BitsMutExt: BitsMut + Sized {
             (set_in Self.Shape Self.Order.Endian self.new) }
         ensures at_most { size (set_in Self.Shape Self.Order.Endian self.new)
             ≤ size (set_in Self.Shape Self.Order.Endian self.old) }
+        ensures subset { IsSubset (set_in Self.Shape Self.Order.Endian self.new)
+            (set_in Self.Shape Self.Order.Endian self.old) }
         ensures stays { Self.loan self.old ≡ Self.loan self.new }
     {
         retain::<Self, Self::Order, F>(self, keep);
@@ -382,6 +389,8 @@ pub trait BitsMutExt: BitsMut + Sized {
             ≡ fold with_index (set_in Self.Shape Self.Order.Endian self.old) indexes.now }
         ensures at_most { size (set_in Self.Shape Self.Order.Endian self.new)
             ≤ size (set_in Self.Shape Self.Order.Endian self.old) + length indexes.now }
+        ensures at_least { size (set_in Self.Shape Self.Order.Endian self.old)
+            ≤ size (set_in Self.Shape Self.Order.Endian self.new) }
         ensures stays { Self.loan self.old ≡ Self.loan self.new }
     {
         for index in indexes {
@@ -416,6 +425,8 @@ pub trait BitsMutExt: BitsMut + Sized {
             × WholeRun I.IntoIter.next_gives iter
             (λ run. set_in Self.Shape Self.Order.Endian self.new
             ≡ fold with_index (set_in Self.Shape Self.Order.Endian self.old) run.items) }
+        ensures at_least { size (set_in Self.Shape Self.Order.Endian self.old)
+            ≤ size (set_in Self.Shape Self.Order.Endian self.new) }
         ensures stays { Self.loan self.old ≡ Self.loan self.new }
     {
         insert_each::<Self, Self::Order, I::IntoIter>(self, indexes.into_iter());
@@ -438,6 +449,7 @@ pub trait BitsMutExt: BitsMut + Sized {
         ensures count { let before = set_in Self.Shape Self.Order.Endian self.old in
             size (set_in Self.Shape Self.Order.Endian self.new)
             ≡ size before - (members_below before to - members_below before from) + (to - from) }
+        ensures all { HasAllIn (set_in Self.Shape Self.Order.Endian self.new) from to }
         ensures stays { Self.loan self.old ≡ Self.loan self.new }
     {
         self.set_range_in::<Self::Order>(from, to);
@@ -460,6 +472,7 @@ pub trait BitsMutExt: BitsMut + Sized {
         ensures count { let before = set_in Self.Shape Self.Order.Endian self.old in
             size (set_in Self.Shape Self.Order.Endian self.new)
             ≡ size before - (members_below before to - members_below before from) }
+        ensures none { NoneIn (set_in Self.Shape Self.Order.Endian self.new) from to }
         ensures stays { Self.loan self.old ≡ Self.loan self.new }
     {
         self.clear_range_in::<Self::Order>(from, to);

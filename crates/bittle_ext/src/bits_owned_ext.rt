@@ -1,12 +1,13 @@
 //! Everyday calls that make owned sets.
 
-ghost use Rattle.std.specs.Prelude.{◌≡◌, ◌+◌, ◌<◌, ◌≤◌, ℕ, Bool, false, length, List, IsTrue};
+ghost use Rattle.std.specs.Prelude.{◌≡◌, ◌+◌, ◌-◌, ◌<◌, ◌≤◌, ℕ, Bool, false, length, List, IsTrue};
 ghost use Rattle.std.specs.Iterator.{Drains, IsFinite};
 ghost use Rattle.std.specs.Iterator.Runs.{WholeRun};
 ghost use Rattle.std.specs.List.{fold};
 ghost use Rattle.std.specs.Range.Bound.{start_index, end_index};
 ghost use Rattle.bittle_ext.specs.Rotations.{rotated_down, rotated_up, shifted_down, shifted_up};
-ghost use Rattle.bittle.specs.PlainSet.{complement, contains, empty_set, size, with_index};
+ghost use Rattle.bittle.specs.PlainSet.{complement, contains, empty_set, members_below, size};
+ghost use Rattle.bittle.specs.PlainSet.{with_index};
 ghost use Rattle.bittle.specs.PlainSet.{with_span, without_span, with_span_toggled};
 ghost use Rattle.bittle.specs.Values.{set_in, set_mirrored};
 
@@ -51,8 +52,11 @@ pub trait BitsOwnedExt: BitsOwned {
         requires indexable { IsTrue Self.indexable }
         requires ordered { from ≤ to }
         requires within { to ≤ Self.type_capacity }
-        ensures { set_in Self.Shape Self.Order.Endian result
+        ensures set { set_in Self.Shape Self.Order.Endian result
             ≡ with_span (set_in Self.Shape Self.Order.Endian self) from to }
+        ensures count { let before = set_in Self.Shape Self.Order.Endian self in
+            size (set_in Self.Shape Self.Order.Endian result)
+            ≡ size before - (members_below before to - members_below before from) + (to - from) }
     {
         let mut set = self;
         set.set_range_in::<Self::Order>(from, to);
@@ -73,8 +77,11 @@ pub trait BitsOwnedExt: BitsOwned {
         requires indexable { IsTrue Self.indexable }
         requires ordered { from ≤ to }
         requires within { to ≤ Self.type_capacity }
-        ensures { set_in Self.Shape Self.Order.Endian result
+        ensures set { set_in Self.Shape Self.Order.Endian result
             ≡ without_span (set_in Self.Shape Self.Order.Endian self) from to }
+        ensures count { let before = set_in Self.Shape Self.Order.Endian self in
+            size (set_in Self.Shape Self.Order.Endian result)
+            ≡ size before - (members_below before to - members_below before from) }
     {
         let mut set = self;
         set.clear_range_in::<Self::Order>(from, to);
@@ -119,10 +126,16 @@ pub trait BitsOwnedExt: BitsOwned {
         requires ordered { start_index (R.start_bound range)
             ≤ end_index (R.end_bound range) Self.type_capacity }
         requires within { end_index (R.end_bound range) Self.type_capacity ≤ Self.type_capacity }
-        ensures { let start = start_index (R.start_bound range) in
+        ensures set { let start = start_index (R.start_bound range) in
             let end = end_index (R.end_bound range) Self.type_capacity in
             set_in Self.Shape Self.Order.Endian result
             ≡ with_span (set_in Self.Shape Self.Order.Endian self) start end }
+        ensures count { let before = set_in Self.Shape Self.Order.Endian self in
+            let start = start_index (R.start_bound range) in
+            let end = end_index (R.end_bound range) Self.type_capacity in
+            size (set_in Self.Shape Self.Order.Endian result)
+            ≡ size before - (members_below before end - members_below before start)
+            + (end - start) }
     {
         let mut set = self;
         set.set_span(range);
@@ -145,10 +158,15 @@ pub trait BitsOwnedExt: BitsOwned {
         requires ordered { start_index (R.start_bound range)
             ≤ end_index (R.end_bound range) Self.type_capacity }
         requires within { end_index (R.end_bound range) Self.type_capacity ≤ Self.type_capacity }
-        ensures { let start = start_index (R.start_bound range) in
+        ensures set { let start = start_index (R.start_bound range) in
             let end = end_index (R.end_bound range) Self.type_capacity in
             set_in Self.Shape Self.Order.Endian result
             ≡ without_span (set_in Self.Shape Self.Order.Endian self) start end }
+        ensures count { let before = set_in Self.Shape Self.Order.Endian self in
+            let start = start_index (R.start_bound range) in
+            let end = end_index (R.end_bound range) Self.type_capacity in
+            size (set_in Self.Shape Self.Order.Endian result)
+            ≡ size before - (members_below before end - members_below before start) }
     {
         let mut set = self;
         set.clear_span(range);
@@ -242,6 +260,8 @@ pub trait BitsOwnedExt: BitsOwned {
         ensures moved { (i : ℕ) → i + by < Self.type_capacity
             → contains (set_in Self.Shape Self.Order.Endian result) i
             ≡ contains (set_in Self.Shape Self.Order.Endian self) (i + by) }
+        ensures at_most { size (set_in Self.Shape Self.Order.Endian result)
+            ≤ size (set_in Self.Shape Self.Order.Endian self) }
         ensures emptied { (i : ℕ) → i < Self.type_capacity → Self.type_capacity ≤ i + by
             → contains (set_in Self.Shape Self.Order.Endian result) i ≡ false }
     {
@@ -267,6 +287,8 @@ pub trait BitsOwnedExt: BitsOwned {
         ensures moved { (i : ℕ) → i + by < Self.type_capacity
             → contains (set_in Self.Shape Self.Order.Endian result) (i + by)
             ≡ contains (set_in Self.Shape Self.Order.Endian self) i }
+        ensures at_most { size (set_in Self.Shape Self.Order.Endian result)
+            ≤ size (set_in Self.Shape Self.Order.Endian self) }
         ensures emptied { (i : ℕ) → i < Self.type_capacity → i < by
             → contains (set_in Self.Shape Self.Order.Endian result) i ≡ false }
     {

@@ -33,6 +33,8 @@ pub trait BitsShiftExt: BitsMut {
         ensures moved { (i : ℕ) → i + by < (Self.big self.old).capacity
             → contains (set_in Self.Shape Self.Order.Endian self.new) i
             ≡ contains (set_in Self.Shape Self.Order.Endian self.old) (i + by) }
+        ensures at_most { size (set_in Self.Shape Self.Order.Endian self.new)
+            ≤ size (set_in Self.Shape Self.Order.Endian self.old) }
         ensures emptied { (i : ℕ) → i < (Self.big self.old).capacity
             → (Self.big self.old).capacity ≤ i + by
             → contains (set_in Self.Shape Self.Order.Endian self.new) i ≡ false }
@@ -60,6 +62,8 @@ pub trait BitsShiftExt: BitsMut {
         ensures moved { (i : ℕ) → i + by < (Self.big self.old).capacity
             → contains (set_in Self.Shape Self.Order.Endian self.new) (i + by)
             ≡ contains (set_in Self.Shape Self.Order.Endian self.old) i }
+        ensures at_most { size (set_in Self.Shape Self.Order.Endian self.new)
+            ≤ size (set_in Self.Shape Self.Order.Endian self.old) }
         ensures emptied { (i : ℕ) → i < (Self.big self.old).capacity → i < by
             → contains (set_in Self.Shape Self.Order.Endian self.new) i ≡ false }
         ensures stays { Self.loan self.old ≡ Self.loan self.new }

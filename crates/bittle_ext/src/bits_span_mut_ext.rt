@@ -4,6 +4,8 @@
 ghost use Rattle.std.specs.Prelude.{◌≡◌, ◌+◌, ◌-◌, ◌≤◌};
 ghost use Rattle.std.specs.Range.Bound.{start_index, end_index};
 ghost use Rattle.bittle_ext.specs.Changes.{with_span_assigned};
+ghost use Rattle.bittle.specs.Searches.{NoneIn};
+ghost use Rattle.bittle_ext.specs.RangeMembers.{HasAllIn};
 ghost use Rattle.bittle.specs.PlainSet.{members_below, size};
 ghost use Rattle.bittle.specs.PlainSet.{with_span, without_span, with_span_toggled};
 ghost use Rattle.bittle.specs.Values.{set_in, ShapeFits};
@@ -46,6 +48,9 @@ pub trait BitsSpanMutExt: BitsMut + Sized {
             let end = end_index (R.end_bound range) (Self.big self.old).capacity in
             size (set_in Self.Shape Self.Order.Endian self.new)
             ≡ size before - (members_below before end - members_below before start) + (end - start) }
+        ensures all { HasAllIn (set_in Self.Shape Self.Order.Endian self.new)
+            (start_index (R.start_bound range))
+            (end_index (R.end_bound range) (Self.big self.old).capacity) }
         ensures stays { Self.loan self.old ≡ Self.loan self.new }
     {
         let (from, to) = ends_within::<Self, R>(self, &range);
@@ -75,6 +80,9 @@ pub trait BitsSpanMutExt: BitsMut + Sized {
             let end = end_index (R.end_bound range) (Self.big self.old).capacity in
             size (set_in Self.Shape Self.Order.Endian self.new)
             ≡ size before - (members_below before end - members_below before start) }
+        ensures none { NoneIn (set_in Self.Shape Self.Order.Endian self.new)
+            (start_index (R.start_bound range))
+            (end_index (R.end_bound range) (Self.big self.old).capacity) }
         ensures stays { Self.loan self.old ≡ Self.loan self.new }
     {
         let (from, to) = ends_within::<Self, R>(self, &range);

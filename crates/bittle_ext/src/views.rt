@@ -11,11 +11,11 @@
 //! 0b0011u8.complement_view().within(0, 4).count_ones(); // 2: indexes 2 and 3
 //! ```
 
-ghost use Rattle.std.specs.Prelude.{◌≡◌, ◌<◌, ◌≤◌, ◌/◌, ◌&&◌, ◌||◌, max};
+ghost use Rattle.std.specs.Prelude.{◌≡◌, ◌<◌, ◌≤◌, ◌-◌, ◌/◌, ◌&&◌, ◌||◌, max};
 ghost use Rattle.bittle_ext.specs.Combined.{both_of, either_of, first_only_of, just_one_of};
 ghost use Rattle.bittle_ext.specs.RangeMembers.{members_within, IsPartBelow};
 ghost use Rattle.bittle_ext.specs.Views.{decided_until, decided_of_first, rounded_up};
-ghost use Rattle.bittle.specs.PlainSet.{ascending, complement};
+ghost use Rattle.bittle.specs.PlainSet.{ascending, complement, size};
 ghost use Rattle.bittle.specs.SetOperations.{first_alone, just_one};
 ghost use Rattle.bittle.specs.Values.{set_in, ShapeFits};
 ghost use Rattle.bittle.specs.Walk.{AreBelow, IsFresh};
@@ -93,6 +93,9 @@ pub trait BitsViewExt: Bits {
             Self.Order.Endian result) ≡ ascending (both_of
             (set_in Self.Shape Self.Order.Endian self.now)
             (set_in B.Shape B.Order.Endian other.now)) }
+        ensures at_most { size (set_in ⟦<AndView<'a, Self, B, Self::Order, B::Order> as Shape>⟧
+            Self.Order.Endian result)
+            ≤ size (set_in Self.Shape Self.Order.Endian self.now) }
         ensures view_fits { ShapeFits
             ⟦<AndView<'a, Self, B, Self::Order, B::Order> as Shape>⟧ result }
     {
@@ -127,6 +130,9 @@ pub trait BitsViewExt: Bits {
             Self.Order.Endian result) ≡ ascending (first_only_of
             (set_in Self.Shape Self.Order.Endian self.now)
             (set_in B.Shape B.Order.Endian other.now)) }
+        ensures at_most { size (set_in ⟦<MinusView<'a, Self, B, Self::Order, B::Order> as Shape>⟧
+            Self.Order.Endian result)
+            ≤ size (set_in Self.Shape Self.Order.Endian self.now) }
         ensures view_fits { ShapeFits
             ⟦<MinusView<'a, Self, B, Self::Order, B::Order> as Shape>⟧ result }
     {
@@ -336,6 +342,9 @@ pub trait BitsViewExt: Bits {
             ≡ (Self.big self.now).capacity }
         ensures set { set_in ⟦<Within<'a, Self, Self::Order> as Shape>⟧ Self.Order.Endian result
             ≡ members_within (set_in Self.Shape Self.Order.Endian self.now) from to }
+        ensures at_most { size (set_in ⟦<Within<'a, Self, Self::Order> as Shape>⟧
+            Self.Order.Endian result)
+            ≤ to - from }
         ensures view_fits { ShapeFits ⟦<Within<'a, Self, Self::Order> as Shape>⟧ result }
     {
         self.within_span(from..to)

@@ -1,6 +1,7 @@
 use Rattle.std.proofs.Common.{arith}
 use Rattle.bittle.specs.Values.{set_in}
 use Rattle.bittle_bits.proofs.MembersBelow.{below_between}
+use Rattle.bittle_ext.proofs.KeptSizes.{below_member}
 use Rattle.bittle_ext.proofs.RankFacts.{below_past, below_zero}
 use Rattle.bittle_ext.proofs.bits_ext.BitsExt.rank.Goals as goal
 
@@ -19,3 +20,12 @@ returns-clause-at_most_all g c =
     let few = below_between s c.min.result s.capacity
     (omega (arith, c.min.ensures, ends.capacity)) in
     omega (arith, few.0, c.count_ones_in_range_in.ensures.value)
+
+pub returns-clause-below_member : goal.returns-clause-below_member
+returns-clause-below_member g c has =
+    let s = set_in g.Self.Shape g.Self.Order.Endian c.args.self.now in
+    omega (
+      arith,
+      below_member s c.args.index c.capacity_of.ensures.ends.past has,
+      returns-clause-value g c,
+    )

@@ -1,6 +1,7 @@
-use Rattle.std.proofs.Common.{◌≡◌, ◌*◌, ◌+◌, ap, ◌∙◌, arith}
+use Rattle.std.proofs.Common.{Some, None, ◌≡◌, ◌*◌, ◌+◌, ap, ◌∙◌, arith}
 use Rattle.bittle.specs.Values.{set_in}
 use Rattle.bittle_bits.proofs.Words.{word_ends}
+use Rattle.bittle_ext.proofs.KeptSizes.{select_found}
 use Rattle.bittle_ext.proofs.RankFacts.{selected, not_selected}
 use Rattle.bittle_ext.proofs.bits_ext.BitsExt.select.Goals as goal
 
@@ -48,3 +49,13 @@ returns-in-Some-clause-value g c =
 pub returns-in-None-clause-value : goal.returns-in-None-clause-value
 returns-in-None-clause-value g c =
     not_selected (set_in g.Self.Shape g.Self.Order.Endian c.args.self.now) c.args.rank c.in-None.ensures
+
+pub returns-in-Some-clause-found : goal.returns-in-Some-clause-found
+returns-in-Some-clause-found g c =
+    select_found (set_in g.Self.Shape g.Self.Order.Endian c.args.self.now) c.args.rank (Some _)
+    (returns-in-Some-clause-value g c)
+
+pub returns-in-None-clause-found : goal.returns-in-None-clause-found
+returns-in-None-clause-found g c =
+    select_found (set_in g.Self.Shape g.Self.Order.Endian c.args.self.now) c.args.rank None
+    (returns-in-None-clause-value g c)

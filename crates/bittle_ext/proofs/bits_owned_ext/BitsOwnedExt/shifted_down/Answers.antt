@@ -1,6 +1,8 @@
 use Rattle.std.proofs.Common.{ap, ◌∙◌, arith}
-use Rattle.bittle.specs.PlainSet.{contains}
+use Rattle.bittle.specs.PlainSet.{contains, size}
+use Rattle.bittle.specs.Values.{set_in}
 use Rattle.bittle_ext.proofs.RotatedSets.{shifted_from, emptied_above}
+use Rattle.bittle_ext.proofs.KeptSizes.{size_shifted_down}
 use Rattle.bittle_ext.proofs.bits_owned_ext.BitsOwnedExt.shifted_down.Goals as goal
 
 pub returns-clause-moved : goal.returns-clause-moved
@@ -13,3 +15,10 @@ returns-clause-emptied g c i h l =
     ap (λ s. contains s i) c.shift_down.ensures.set
     ∙ emptied_above _ _ i (omega (arith, h, g.met.Self.FixedCapacity.one_capacity c.args.self))
     (omega (arith, l, g.met.Self.FixedCapacity.one_capacity c.args.self))
+
+pub returns-clause-at_most : goal.returns-clause-at_most
+returns-clause-at_most g c = omega (
+  arith,
+  ap size c.shift_down.ensures.set,
+  size_shifted_down (set_in g.Self.Shape g.Self.Order.Endian c.args.self) c.args.by,
+)
