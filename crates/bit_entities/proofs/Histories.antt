@@ -1,7 +1,7 @@
 -- What holds of every list of events: which answers it has, when a number is spawned again, which
 -- entities live, and which components are kept.
 use Rattle.std.proofs.Common.{◌≡◌, ◌≢◌, ℕ, zero, suc, ◌<◌, ◌⊎◌, ◌↔◌, Bool, true, false, cond, ◌&&◌, ◌==◌, Option, Some, None, List, [], ◌∷◌, inl, inr, refl, sym, ap, ◌∙◌, arith}
-use Rattle.std.specs.Prelude.{option_map, slice_get, take}
+use Rattle.std.specs.Prelude.{slice_get}
 use Rattle.std.proofs.lemmas.Bool.{cases_eq, cases_Bool, eq-eqb, ne_eqb, eqb-true, lt-ltb, and_parts, true≢false}
 use Rattle.bit_entities.specs.Entities.{World, IsWorld, least_dead, may_have, without_entity, with_component, spawned_or_full, with_spawned, answer_to, world_after, event_answers, final_world}
 use Rattle.bit_entities.specs.EntityLaws.{IsKeptFrom, IsRemoved, LivesFrom}

@@ -1,5 +1,5 @@
 -- Laws of the entity machine, for all events.
-use Rattle.std.specs.Prelude.{◌≡◌, ◌≢◌, ℕ, suc, ◌+◌, ◌<◌, ◌⊎◌, ◌↔◌, Bool, true, false, ◌==◌, Some, List, [], ◌∷◌, option_map, slice_get, take}
+use Rattle.std.specs.Prelude.{◌≡◌, ◌≢◌, ℕ, suc, ◌+◌, ◌<◌, ◌⊎◌, ◌↔◌, Bool, true, false, ◌==◌, Some, List, [], ◌∷◌, slice_get}
 use Rattle.bittle.specs.PlainSet.{PlainSet, ascending, size}
 use Rattle.bittle.specs.Searches.{NoneIn, IsFirstIn}
 use Rattle.bit_histories.specs.Histories.{total}

@@ -1,8 +1,6 @@
 -- What follows from the role machine.
 use Rattle.std.proofs.Common.{◌≡◌, ℕ, zero, suc, ◌+◌, ◌<◌, ◌≤◌, ◌↔◌, ◌⊎◌, Bool, true, false, cond, ◌&&◌, ◌||◌, ◌==◌, nat_lt, Option, Some, None, List, [], ◌∷◌, inl, inr, refl, sym, ap, subst, ◌∙◌, arith}
 use Rattle.std.specs.List.{list_any}
-use Rattle.std.specs.Option.{option_map}
-use Rattle.std.specs.Prelude.{slice_get, take}
 use Rattle.std.proofs.lemmas.Bool.{cases_eq, cases_lt, lt-ltb, ltb-true, eq-eqb, eqb-true, ne_eqb, or_left, or_right, and_from, and_parts, and_right}
 use Rattle.std.proofs.lemmas.Option.{same_Some}
 use Rattle.bit_roles.specs.Roles.{Roles, parent_of, ancestor, LeadsTo, Allows, AllowsUpTo, HasLesserParents, may_grant, may_inherit, with_granted, with_parent, answer_to, roles_after, request_answers, final_roles, bare_roles}

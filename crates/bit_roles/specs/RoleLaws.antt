@@ -1,7 +1,6 @@
 -- Laws of the role machine, for all requests.
 use Rattle.std.specs.List.{list_any}
-use Rattle.std.specs.Option.{option_map}
-use Rattle.std.specs.Prelude.{◌≡◌, ℕ, suc, ◌+◌, ◌<◌, ◌≤◌, ◌↔◌, ◌⊎◌, Bool, true, false, ◌&&◌, ◌||◌, ◌==◌, Some, List, slice_get, take}
+use Rattle.std.specs.Prelude.{◌≡◌, ℕ, suc, ◌+◌, ◌<◌, ◌≤◌, ◌↔◌, ◌⊎◌, Bool, true, false, ◌&&◌, ◌||◌, ◌==◌, Some, List, slice_get}
 use Rattle.bit_roles.specs.Roles.{Roles, ancestor, LeadsTo, Allows, AllowsUpTo, HasLesserParents, answer_to, roles_after, request_answers, final_roles, bare_roles}
 use Rattle.bit_roles.specs.declared.Request.{Request}
 use Rattle.bit_roles.specs.declared.Request.TheVariants.{Grant, Inherit}

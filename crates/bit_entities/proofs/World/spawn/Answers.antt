@@ -1,4 +1,4 @@
-use Rattle.std.proofs.Common.{ℕ, Option, ◌<◌, true, Some, None, sym, ap, ◌∙◌, subst, arith}
+use Rattle.std.proofs.Common.{ℕ, ◌<◌, true, Some, None, sym, ap, ◌∙◌, subst, arith}
 use Rattle.bittle.specs.PlainSet.{PlainSet, complement, size}
 use Rattle.bittle.specs.Searches.{IsFirstIn}
 use Rattle.bittle.specs.Values.{set_in}
