@@ -115,9 +115,10 @@ pub fn queries_visit_each_once()
     ensures { QueriesVisitEachOnce }
 {}
 
-/// States that calls of `spawn`, `remove`, `attach` and `detach` in any sequence answer as the
-/// machine does on the list of their events. This follows from what the clauses of each call say of
-/// its answer and of the world. So each law of lists of events holds for such calls too.
+/// States that calls of `spawn`, `remove`, `attach` and `detach` in any sequence are a history
+/// exactly if they answer as the machine does on the list of their events, and leave its last
+/// state. The clauses of each call say what it answers and which world it leaves, so such calls are
+/// a history. So each law of lists of events holds for them too.
 pub fn calls_answer_as_lists()
     ensures { CallsAnswerAsLists answer_to world_after event_answers final_world }
 {}

@@ -103,9 +103,9 @@ pub fn pages_are_outstanding()
 {}
 
 /// States that calls of `take`, `take_at`, `give_back`, `take_run` and `give_back_run` in any
-/// sequence answer as the machine does on the list of their requests. This follows from what the
-/// clauses of each call say of its answer and of the pages. So each law of lists of requests holds
-/// for such calls too.
+/// sequence are a history exactly if they answer as the machine does on the list of their requests,
+/// and leave its last state. The clauses of each call say what it answers and which pages it
+/// leaves, so such calls are a history. So each law of lists of requests holds for them too.
 pub fn calls_answer_as_lists()
     ensures { CallsAnswerAsLists answer_to state_after request_answers final_state }
 {}

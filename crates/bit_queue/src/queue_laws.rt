@@ -62,9 +62,10 @@ pub fn tasks_run_in_time()
     ensures { TasksRunInTime }
 {}
 
-/// States that calls of `wake` and `next` in any sequence answer as the machine does on the list of
-/// their events. This follows from what the clauses of each call say of its answer and of the ready
-/// tasks. So each law of lists of events holds for such calls too.
+/// States that calls of `wake` and `next` in any sequence are a history exactly if they answer as
+/// the machine does on the list of their events, and leave its last state. The clauses of each call
+/// say what it answers and which ready tasks it leaves, so such calls are a history. So each law of
+/// lists of events holds for them too.
 pub fn calls_answer_as_lists()
     ensures { CallsAnswerAsLists answer_to state_after event_answers final_state }
 {}

@@ -117,9 +117,10 @@ pub fn no_chain_comes_back()
     ensures { NoChainComesBack }
 {}
 
-/// States that calls of `grant` and `inherit` in any sequence answer as the machine does on the
-/// list of their requests. This follows from what the clauses of each call say of its answer and of
-/// the roles. So each law of lists of requests holds for such calls too.
+/// States that calls of `grant` and `inherit` in any sequence are a history exactly if they answer
+/// as the machine does on the list of their requests, and leave its last state. The clauses of each
+/// call say what it answers and which roles it leaves, so such calls are a history. So each law of
+/// lists of requests holds for them too.
 pub fn calls_answer_as_lists()
     ensures { CallsAnswerAsLists answer_to roles_after request_answers final_roles }
 {}
