@@ -131,7 +131,7 @@ pub trait BitsIndexMutExt: BitsMut + Sized {
     /// seen.try_insert(65);                                // None: there is no bit 65
     /// ```
     #[inline]
-    #[tactic(auto, using(bittle::proofs::CallerSets::contains_within, crate::proofs::CallerMembers::has_after_set))]
+    #[tactic(auto, using(bittle::proofs::CallerSets::contains_within))]
     final fn try_insert(&mut self, index: u32) -> Option<bool>
         requires { IsTrue Self.indexable }
         ensures within { IsTrue (is_some result)
@@ -165,7 +165,7 @@ pub trait BitsIndexMutExt: BitsMut + Sized {
     /// seen.try_remove(8);                                 // None: there is no bit 8
     /// ```
     #[inline]
-    #[tactic(auto, using(bittle::proofs::CallerSets::contains_within, crate::proofs::CallerMembers::has_after_clear))]
+    #[tactic(auto, using(bittle::proofs::CallerSets::contains_within))]
     final fn try_remove(&mut self, index: u32) -> Option<bool>
         requires { IsTrue Self.indexable }
         ensures within { IsTrue (is_some result)

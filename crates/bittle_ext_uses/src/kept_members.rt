@@ -65,14 +65,6 @@ pub fn free_block(map: &mut [u64; 4], first: u32, many: u32)
     map.clear_span(first..first + many);
 }
 
-/// Returns a word with its lowest `n` bits set.
-pub fn low_mask(n: u32) -> u64
-    requires { n ≤ 64 }
-    ensures { size (bit_set 64 result) ≡ n }
-{
-    u64::zeros().with_span(..n)
-}
-
 /// Returns the median of a set of values, or `None` if the set is empty.
 pub fn median(values: u64) -> Option<u32>
     ensures { IfSome result (λ i. (bit_set 64 values).has i ≡ true) }
