@@ -50,7 +50,7 @@ pub size_cut : (c : ℕ) (t : PlainSet) → Ends t → size (members_to c t) ≤
 unfolding has_below
 size_cut c t ends =
     let same : (k : ℕ) → k < c → has_below c t k ≡ t.has k =
-        λ k l. ap (λ b. b && t.has k) (lt-ltb k c l) in
+    λ k l. ap (λ b. b && t.has k) (lt-ltb k c l) in
     elim (cases_lt t.capacity c) [
       | inl l ↦ omega (
         arith,
@@ -72,10 +72,10 @@ size_shifted_down s by = elim (cases_lt s.capacity by) [
   | inr g ↦
       let rest = s.capacity - by in
       let moved : (k : ℕ) → k < rest → has_shifted_down s by k ≡ s.has (by + k) = λ k l.
-          let place : k + by ≡ by + k = omega arith in
-          down-inside s by k (omega (arith, l, g)) ∙ ap s.has place in
+      let place : k + by ≡ by + k = omega arith in
+      down-inside s by k (omega (arith, l, g)) ∙ ap s.has place in
       let emptied : (k : ℕ) → k < by → has_shifted_down s by (rest + k) ≡ false =
-          λ k l. down-past s by (rest + k) (omega (arith, g)) in
+      λ k l. down-past s by (rest + k) (omega (arith, g)) in
       let halves : s.capacity ≡ rest + by = omega (arith, g) in
       let others : s.capacity ≡ by + rest = omega (arith, g) in
       omega (
@@ -102,8 +102,8 @@ size_shifted_up s by = elim (cases_lt s.capacity by) [
   | inr g ↦
       let rest = s.capacity - by in
       let moved : (k : ℕ) → k < rest → has_shifted_up s by (by + k) ≡ s.has k = λ k l.
-          let back : by + k - by ≡ k = omega arith in
-          up-inside s by (by + k) (omega arith) (omega (arith, l, g)) ∙ ap s.has back in
+      let back : by + k - by ≡ k = omega arith in
+      up-inside s by (by + k) (omega arith) (omega (arith, l, g)) ∙ ap s.has back in
       let halves : s.capacity ≡ by + rest = omega (arith, g) in
       let others : s.capacity ≡ rest + by = omega (arith, g) in
       omega (

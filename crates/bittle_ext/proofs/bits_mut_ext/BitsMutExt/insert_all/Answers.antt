@@ -18,6 +18,6 @@ returns-clause-at_least g c =
     omega (
       arith,
       ap size (c.loop-index.invariant.inserted
-      ∙ ap (fold with_index s) (take_all _ _ c.loop-index-test.false)),
+          ∙ ap (fold with_index s) (take_all _ _ c.loop-index-test.false)),
       size_all_set c.args.indexes.now s,
     )
