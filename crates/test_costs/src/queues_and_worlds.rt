@@ -4,7 +4,7 @@
 ghost use Rattle.std.specs.Prelude.{◌≤◌, IsTrue};
 
 use crate::asked::Asked;
-use crate::probe_rows::{Measured, costs, measure_rows};
+use crate::probe_rows::{Measured, TWO, costs, measure_rows, row_of};
 use bit_entities::World;
 use bit_queue::{PriorityQueue, RoundRobin};
 use bittle::BitsOwned;
@@ -80,39 +80,31 @@ fn the_next_task_in_turn_is_found_in_the_words_from_the_turn(rt: HostRuntime) {
     measure_rows(&rt, InTurn);
 }
 
-#[derive(Drop)]
-struct Living;
+// Makes calls on a world in which all of 768 entities are alive, except 451 and 508.
+fn change_most<B: BitsOwned>(rt: &impl Abort, world: &mut World<B, 2>, asked: &Asked) {
+    costs!(rt; asked, world.capacity(), 768, 0, 0);
+    costs!(rt; asked, world.len(), 766, 0, 12);
+    costs!(rt; asked, world.is_alive(451), false, 0, 1);
+    costs!(rt; asked, world.spawn(), Some(451), 8, 1);
+    costs!(rt; asked, world.attach(451, 1), true, 0, 1);
+    costs!(rt; asked, world.has(451, 1), true, 0, 0);
+    costs!(rt; asked, world.detach(451, 2), false, 0, 0);
+    costs!(rt; asked, world.remove(451), true, 0, 2);
+    costs!(rt; asked, world.remove(451), false, 0, 1);
+}
 
-impl Measured for Living {
-    fn measure<B: BitsOwned>(
-        self,
-        rt: &impl Abort,
-        few: B,
-        most: B,
-        _one: B,
-        _none: B,
-        _low: B,
-        _lower: B,
-        asked: &Asked,
-    ) {
-        let mut world: World<B, 2> = World::with_alive(most);
-        costs!(rt; asked, world.capacity(), 768, 0, 0);
-        costs!(rt; asked, world.len(), 766, 0, 12);
-        costs!(rt; asked, world.is_alive(451), false, 0, 1);
-        costs!(rt; asked, world.spawn(), Some(451), 8, 1);
-        costs!(rt; asked, world.attach(451, 1), true, 0, 1);
-        costs!(rt; asked, world.has(451, 1), true, 0, 0);
-        costs!(rt; asked, world.detach(451, 2), false, 0, 0);
-        costs!(rt; asked, world.remove(451), true, 0, 2);
-        costs!(rt; asked, world.remove(451), false, 0, 1);
-        let world: World<B, 2> = World::with_alive(few);
-        costs!(rt; asked, world.first_with(&[], 0), Some(451), 8, 0);
-        costs!(rt; asked, world.first_with(&[], 452), Some(508), 1, 0);
-        costs!(rt; asked, world.first_with(&[], 509), None, 5, 0);
-    }
+// Makes calls on a world in which just the entities 451 and 508 are alive.
+fn search_few<B: BitsOwned>(rt: &impl Abort, world: &World<B, 2>, asked: &Asked) {
+    costs!(rt; asked, world.first_with(&[], 0), Some(451), 8, 0);
+    costs!(rt; asked, world.first_with(&[], 452), Some(508), 1, 0);
+    costs!(rt; asked, world.first_with(&[], 509), None, 5, 0);
 }
 
 #[test]
 fn an_entity_is_found_in_the_words_up_to_it(rt: HostRuntime) {
-    measure_rows(&rt, Living);
+    let asked = Asked::new();
+    let mut most = World::with_alive(row_of(!0, !TWO, &asked));
+    change_most(&rt, &mut most, &asked);
+    let few = World::with_alive(row_of(0, TWO, &asked));
+    search_few(&rt, &few, &asked);
 }
