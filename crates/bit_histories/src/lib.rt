@@ -1,4 +1,4 @@
-//! Histories of calls on a machine: definitions and a lemma that the crates above share. This crate
+//! Histories of calls on a machine: definitions and lemmas that the crates above share. This crate
 //! has no code.
 //!
 //! The contract of a call says that the call gives the machine's answer to a request, and leaves
