@@ -7,9 +7,9 @@
 //! entity. A query for components yields each entity that has them exactly once.
 #![tactic(auto)]
 
-ghost use Rattle.std.specs.Prelude.{◌≡◌, ◌∷◌, [], ◌≤◌, length, IsTrue};
+ghost use Rattle.std.specs.Prelude.{◌≡◌, ◌∷◌, [], ◌<◌, ◌≤◌, length, IsTrue};
 ghost use Rattle.bittle.specs.PlainSet.{size};
-ghost use Rattle.bittle.specs.Values.{set_in};
+ghost use Rattle.bittle.specs.Values.{ShapeFits, set_in};
 ghost use Rattle.bit_entities.specs.Entities.{matching, world_of};
 
 use bit_entities::World;
@@ -53,8 +53,29 @@ fn place<B: BitsOwned>(
     Some(entity)
 }
 
-/// Moves each entity that has a place and a speed and is awake: adds its speed to its place by
-/// `wrapping_add`. Returns how many entities moved.
+/// Adds an entity's speed to its place, by `wrapping_add`.
+fn move_one(places: &mut [i32], speeds: &[i32], entity: u32)
+    requires place { entity < length places.old }
+    requires speed { entity < length speeds.now }
+    ensures places { length places.new ≡ length places.old }
+{
+    let entity = entity as usize;
+    places[entity] = places[entity].wrapping_add(speeds[entity]);
+}
+
+/// Moves each entity of `movers`.
+fn move_each<B: Bits>(movers: &B, places: &mut [i32], speeds: &[i32])
+    requires fits { ShapeFits B.Shape movers.now }
+    requires places { (B.Shape.big movers.now).capacity ≤ length places.old }
+    requires speeds { (B.Shape.big movers.now).capacity ≤ length speeds.now }
+    ensures places { length places.new ≡ length places.old }
+{
+    for entity in movers.iter_ones() {
+        move_one(places, speeds, entity);
+    }
+}
+
+/// Moves each entity that has a place and a speed and is awake. Returns how many entities moved.
 fn step<B: BitsOwned>(world: &World<B, 3>, places: &mut [i32], speeds: &[i32]) -> u32
     requires places { B.type_capacity ≤ length places.old }
     requires speeds { B.type_capacity ≤ length speeds.now }
@@ -63,11 +84,18 @@ fn step<B: BitsOwned>(world: &World<B, 3>, places: &mut [i32], speeds: &[i32]) -
     ensures places { length places.new ≡ length places.old }
 {
     let movers = world.matching(&[PLACE, SPEED, AWAKE]);
-    for entity in movers.iter_ones() {
-        let entity = entity as usize;
-        places[entity] = places[entity].wrapping_add(speeds[entity]);
-    }
+    move_each(&movers, places, speeds);
     movers.count_ones()
+}
+
+/// Prints each entity of `placed` with its place.
+fn print_each<B: Bits>(rt: &HostRuntime, placed: &B, places: &[i32]) -> io::Result<()>
+    requires { ShapeFits B.Shape placed.now }
+{
+    for (entity, place) in placed.join_ones(places.iter().enumerate()) {
+        println!(rt; "entity {entity} at {place}")?;
+    }
+    Ok(())
 }
 
 /// Prints each entity that has a place, with its place.
@@ -76,11 +104,7 @@ fn print_places<B: BitsOwned>(
     world: &World<B, 3>,
     places: &[i32],
 ) -> io::Result<()> {
-    let placed = world.matching(&[PLACE]);
-    for (place, entity) in placed.join_ones(places.iter()).zip(placed.iter_ones()) {
-        println!(rt; "entity {entity} at {place}")?;
-    }
-    Ok(())
+    print_each(rt, &world.matching(&[PLACE]), places)
 }
 
 /// Makes `many` entities, or fewer if no more numbers are free, and prints each.
@@ -93,14 +117,21 @@ fn print_new<B: BitsOwned>(rt: &HostRuntime, world: &mut World<B, 3>, many: u32)
     Ok(())
 }
 
+/// Prints each entity of `sleepers`.
+fn print_would_move<B: Bits>(rt: &HostRuntime, sleepers: &B) -> io::Result<()>
+    requires { ShapeFits B.Shape sleepers.now }
+{
+    for entity in sleepers.iter_ones() {
+        println!(rt; "entity {entity} would move, and sleeps")?;
+    }
+    Ok(())
+}
+
 /// Prints the entities that have a speed and are not awake.
 fn print_sleepers<B: BitsOwned>(rt: &HostRuntime, world: &World<B, 3>) -> io::Result<()> {
     let moving = world.matching(&[SPEED]);
     let awake = world.matching(&[AWAKE]);
-    for entity in moving.minus(&awake).iter_ones() {
-        println!(rt; "entity {entity} would move, and sleeps")?;
-    }
-    Ok(())
+    print_would_move(rt, &moving.minus(&awake))
 }
 
 /// Makes four entities with places, of which all but the last are awake.
@@ -166,7 +197,7 @@ fn first_alive<B: BitsOwned>() -> B
     requires room { 60000 ≤ B.type_capacity }
 {
     let mut alive = B::zeros();
-    alive.set_span(..60_000);
+    alive.set_range(0, 60_000);
     alive
 }
 
