@@ -43,6 +43,27 @@ fn item<W: DoubleEndedIterator>(walk: &mut W, at_front: bool) -> Option<W::Item>
     }
 }
 
+/// Names the first set bit, in a call that takes a bit.
+pub(crate) const FIRST: u32 = 0;
+
+/// Names the last set bit.
+pub(crate) const LAST: u32 = 1;
+
+/// Names the first unset bit.
+pub(crate) const UNSET: u32 = 2;
+
+/// Takes out the first or the last set bit, or sets the first unset bit, as `kind` names. Returns
+/// the index of this bit.
+pub(crate) fn bit_taken<B: BitsMut>(kind: u32, set: &mut B) -> Option<u32>
+    requires { ShapeFits B.Shape set.old }
+{
+    match kind {
+        FIRST => set.pop_first(),
+        LAST => set.pop_last(),
+        _ => set.take_first_zero(),
+    }
+}
+
 /// Takes items from an iterator, one from each of `ends` in turn.
 pub(crate) fn taken<W: DoubleEndedIterator<Item = u32>, const N: usize>(
     walk: &mut W,

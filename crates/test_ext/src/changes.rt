@@ -1,9 +1,11 @@
 //! Tests of calls that change a set, with expected values worked out by hand.
 
-ghost use Rattle.std.specs.Prelude.{◌≤◌, IsTrue};
+ghost use Rattle.std.specs.Prelude.{IsTrue};
 ghost use Rattle.bittle.specs.Values.{ShapeFits};
 
-use crate::calls::{Change, change_in, extend_by_set, flip, inserted};
+use crate::calls::{
+    Change, FIRST, LAST, UNSET, bit_taken, change_in, extend_by_set, flip, inserted,
+};
 use crate::checks::same;
 use bittle::prelude::*;
 use bittle::{Endian, LittleEndian, Set};
@@ -87,70 +89,68 @@ fn change_no_bit<B: BitsMut>(none: &mut B)
     none.insert_all(&[1, 2]);
 }
 
-/// Sets an empty range of a set of capacity 0, and flips all bits. Returns what `pop_first`,
-/// `pop_last` and `take_first_zero` return.
-fn nothing_is_taken<B: BitsOwned>(mut none: B) -> [Option<u32>; 3]
-    requires { IsTrue B.indexable }
-{
-    none.set_range(0, 0);
-    none.complement_assign();
-    [none.pop_first(), none.pop_last(), none.take_first_zero()]
-}
-
 #[test]
 fn capacity_0_is_never_changed(rt: HostRuntime) {
     let mut none: [u8; 0] = [];
     same!(rt; asked_of_no_bit(&mut none), [true, false, false]);
     change_no_bit(&mut none);
-    same!(rt; nothing_is_taken(none), [None; 3]);
+    let mut none = after_range(SET, none, 0, 0);
+    flip(&mut none);
+    let ends = (bit_taken(FIRST, &mut none), bit_taken(LAST, &mut none));
+    same!(rt; (ends, bit_taken(UNSET, &mut none)), ((None, None), None));
 }
 
-/// Sets one range of a set, clears a second one, flips a third one, and assigns `true` and then
-/// `false` to two more. Returns the set after each of the five changes.
-fn after_each_range<B: BitsOwned>(mut row: B) -> [B; 5]
-    requires indexable { IsTrue B.indexable }
-    requires long { 24 ≤ B.type_capacity }
+/// Names `set_range`, in a call that changes a range.
+const SET: u32 = 0;
+
+/// Names `clear_range`.
+const CLEAR: u32 = 1;
+
+/// Names `toggle_range`.
+const TOGGLE: u32 = 2;
+
+/// Names `assign_range` with the value `true`.
+const FILL: u32 = 3;
+
+/// Names `assign_range` with the value `false`.
+const EMPTY: u32 = 4;
+
+/// Returns the set after a change of the range `from..to`, which `kind` names, or unchanged if the
+/// call does not allow the range.
+fn after_range<B: BitsMut>(kind: u32, set: B, from: u32, to: u32) -> B
+    requires { ShapeFits B.Shape set }
 {
-    row.set_range(4, 20);
-    let first = row;
-    row.clear_range(6, 10);
-    let second = row;
-    row.toggle_range(0, 8);
-    let third = row;
-    row.assign_range(20, 24, true);
-    let fourth = row;
-    row.assign_range(1, 24, false);
-    [first, second, third, fourth, row]
+    let mut now = set;
+    if from <= to && to <= now.bits_capacity() {
+        match kind {
+            SET => now.set_range(from, to),
+            CLEAR => now.clear_range(from, to),
+            TOGGLE => now.toggle_range(from, to),
+            FILL => now.assign_range(from, to, true),
+            _ => now.assign_range(from, to, false),
+        }
+    }
+    now
 }
 
 #[test]
 fn ranges_of_a_row(rt: HostRuntime) {
-    let [first, second, third, fourth, fifth] = after_each_range([0u8; 3]);
+    let first = after_range(SET, [0u8; 3], 4, 20);
+    let second = after_range(CLEAR, first, 6, 10);
     same!(rt; (first, second), ([0xF0, 0xFF, 0x0F], [0x30, 0xFC, 0x0F]));
+    let third = after_range(TOGGLE, second, 0, 8);
+    let fourth = after_range(FILL, third, 20, 24);
     same!(rt; (third, fourth), ([0xCF, 0xFC, 0x0F], [0xCF, 0xFC, 0xFF]));
-    same!(rt; fifth, [0x01, 0, 0]);
-}
-
-/// Returns the set after three empty ranges are changed, after its first eight bits are flipped,
-/// and after they are set.
-fn after_empty_and_whole_ranges<B: BitsOwned>(mut word: B) -> [B; 3]
-    requires indexable { IsTrue B.indexable }
-    requires long { 8 ≤ B.type_capacity }
-{
-    word.set_range(3, 3);
-    word.clear_range(8, 8);
-    word.toggle_range(0, 0);
-    let first = word;
-    word.toggle_range(0, 8);
-    let second = word;
-    word.set_range(0, 8);
-    [first, second, word]
+    same!(rt; after_range(EMPTY, fourth, 1, 24), [0x01, 0, 0]);
 }
 
 #[test]
 fn empty_and_whole_ranges(rt: HostRuntime) {
-    let words = after_empty_and_whole_ranges(0b0101u8);
-    same!(rt; words, [0b0101, 0b1111_1010, 0xFF]);
+    let set = after_range(SET, 0b0101u8, 3, 3);
+    let first = after_range(TOGGLE, after_range(CLEAR, set, 8, 8), 0, 0);
+    let second = after_range(TOGGLE, first, 0, 8);
+    let third = after_range(SET, second, 0, 8);
+    same!(rt; (first, second, third), (0b0101, 0b1111_1010, 0xFF));
 }
 
 #[test]
@@ -168,18 +168,6 @@ fn every_bit_is_flipped(rt: HostRuntime) {
     let mut lent = words.as_mut_slice();
     flip(&mut lent);
     same!(rt; words, [u64::MAX, u64::MAX - 1]);
-}
-
-/// Takes out the first set bit, then the last, then the first of those that remain. Returns each of
-/// the three with the set that is left. Then calls `pop_first` and `pop_last` once more, and also
-/// returns what they return.
-fn popped<B: BitsOwned>(mut row: B) -> ([(Option<u32>, B); 3], [Option<u32>; 2])
-    requires { IsTrue B.indexable }
-{
-    let first = (row.pop_first(), row);
-    let second = (row.pop_last(), row);
-    let third = (row.pop_first(), row);
-    ([first, second, third], [row.pop_first(), row.pop_last()])
 }
 
 /// A change that takes out the first set bit and then the last. The answer is their indexes.
@@ -206,9 +194,12 @@ fn popped_in<B: BitsOwned, E: Endian>(mut row: B) -> ([Option<u32>; 2], B)
 #[test]
 fn ends_are_taken_out(rt: HostRuntime) {
     // Bits 0, 15 and 17 are set.
-    let ([first, last, other], none) = popped([0x8001u16, 2]);
-    same!(rt; (first, last), ((Some(0), [0x8000, 2]), (Some(17), [0x8000, 0])));
-    same!(rt; (other, none), ((Some(15), [0, 0]), [None, None]));
+    let mut row = [0x8001u16, 2];
+    same!(rt; (bit_taken(FIRST, &mut row), row), (Some(0), [0x8000, 2]));
+    same!(rt; (bit_taken(LAST, &mut row), row), (Some(17), [0x8000, 0]));
+    same!(rt; (bit_taken(FIRST, &mut row), row), (Some(15), [0, 0]));
+    let none = (bit_taken(FIRST, &mut row), bit_taken(LAST, &mut row));
+    same!(rt; none, (None, None));
     // In little-endian order, bits 3, 8 and 15 are set.
     let left = popped_in::<_, LittleEndian>([0x10u8, 0x81]);
     same!(rt; left, ([Some(3), Some(15)], [0, 0x80]));
@@ -302,6 +293,18 @@ fn lists_and_iterators_are_set(rt: HostRuntime) {
     same!(rt; (first, second), ([0xC0, 0x07], [0xE0, 0x07]));
 }
 
+/// A change that calls `keep` with the same three arguments.
+#[derive(Drop)]
+struct InRange(u32, u32, bool);
+
+impl Change for InRange {
+    type Answer = ();
+
+    fn change<B: BitsMut>(&self, set: &mut B) {
+        keep(set, self.0, self.1, self.2);
+    }
+}
+
 /// Keeps the set bits of the range `from..to` whose index is even, or, if `odd` is `true`, all set
 /// bits of the range. Clears all other bits.
 fn keep<B: BitsMut>(set: &mut B, from: u32, to: u32, odd: bool)
@@ -313,7 +316,7 @@ fn keep<B: BitsMut>(set: &mut B, from: u32, to: u32, odd: bool)
 #[test]
 fn bits_that_are_kept(rt: HostRuntime) {
     let mut word = 0b1000_0110u8;
-    keep(&mut word.in_order_mut::<LittleEndian>(), 0, 6, true);
+    change_in::<_, LittleEndian, _>(&InRange(0, 6, true), &mut word);
     same!(rt; word, 0b1000_0100);
     let mut row = [0x07u8, 0x81];
     keep(&mut row, 0, u32::MAX, false);
@@ -370,13 +373,20 @@ fn each_second_bit_of_several_words(rt: HostRuntime) {
     same!(rt; wide, [1, 1 << 63]);
 }
 
-/// Calls `keep_each_second` with base 100 on a little-endian set. Returns the number, and the bits
-/// of the set afterwards.
+/// Calls `keep_each_second` with base 100. Returns the number, and the set afterwards.
+fn each_second_kept<B: BitsMut>(set: B) -> (u32, B)
+    requires { ShapeFits B.Shape set }
+{
+    let mut now = set;
+    (keep_each_second(&mut now, 100), now)
+}
+
+/// Calls `each_second_kept` on a little-endian set. Returns the number, and the bits of the set
+/// afterwards.
 fn each_second_kept_in_left<T: BitsOwned>(left: T) -> (u32, T)
     requires { IsTrue T.indexable }
 {
-    let mut set = Set::new_le(left);
-    let asked = keep_each_second(&mut set, 100);
+    let (asked, set) = each_second_kept(Set::new_le(left));
     (asked, set.into_bits())
 }
 

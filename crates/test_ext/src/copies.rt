@@ -220,6 +220,24 @@ fn capacity_0(rt: HostRuntime) {
     moves(&rt, none, 9, 9, 0, none);
 }
 
+// Returns our flags after the range `from..to` of their flags is copied to index `at`.
+fn with_flags_copied(
+    ours: &[bool; 24],
+    theirs: &[bool; 24],
+    from: u32,
+    to: u32,
+    at: u32,
+) -> [bool; 24] {
+    let mut flags = *ours;
+    for source in 0..24u32 {
+        let place = at.saturating_add(source).saturating_sub(from);
+        if from <= source && source < to && place < 24 {
+            flags[place as usize] = theirs[source as usize];
+        }
+    }
+    flags
+}
+
 #[test]
 fn drawn_copies_agree_with_plain_loops(rt: HostRuntime) {
     let mut state = 23;
@@ -228,14 +246,10 @@ fn drawn_copies_agree_with_plain_loops(rt: HostRuntime) {
         let (from, at) = (draw(&mut state) % 25, draw(&mut state) % 25);
         let count = draw(&mut state) % (25 - from.max(at));
         let (ours, theirs) = (flags_of(&row), flags_of(&other));
-        let (mut copied, mut within) = (ours, ours);
-        for i in 0..24u32 {
-            if i < count && from + i < 24 && at + i < 24 {
-                copied[(at + i) as usize] = theirs[(from + i) as usize];
-                within[(at + i) as usize] = ours[(from + i) as usize];
-            }
-        }
-        same!(rt; flags_of(&pasted(row, &other, from, from + count, at)), copied);
-        same!(rt; flags_of(&moved(row, from, from + count, at)), within);
+        let to = from.saturating_add(count);
+        let copied = with_flags_copied(&ours, &theirs, from, to, at);
+        same!(rt; flags_of(&pasted(row, &other, from, to, at)), copied);
+        let within = with_flags_copied(&ours, &ours, from, to, at);
+        same!(rt; flags_of(&moved(row, from, to, at)), within);
     }
 }

@@ -127,11 +127,9 @@ fn by_bits<B: Bits, E: Endian>(set: &B, first: u32, count: u32) -> u64
     let capacity = set.bits_capacity();
     let mut number = 0u64;
     for i in 0..count.min(64) {
-        let index = first as u64 + i as u64;
-        if index < capacity as u64 {
-            if set.test_bit_in::<E>(index as u32) {
-                number |= 1 << i;
-            }
+        let index = first.saturating_add(i);
+        if index < capacity && set.test_bit_in::<E>(index) {
+            number |= 1 << i;
         }
     }
     number

@@ -6,7 +6,7 @@ ghost use Rattle.bittle_ext.specs.Views.{rounded_up};
 ghost use Rattle.bittle.specs.Values.{ShapeFits};
 
 use crate::calls::{
-    BACK, FRONT, combination, extend_by_set, one_runs, ones_in_range, set_of, zero_runs,
+    BACK, FRONT, bit_taken, combination, extend_by_set, one_runs, ones_in_range, set_of, zero_runs,
     zeros_in_range,
 };
 use crate::checks::same;
@@ -133,12 +133,7 @@ fn take_one<B: BitsMut>(rt: &impl Abort, kind: u32, row: &mut B, flags: &mut [bo
     requires { ShapeFits B.Shape row.old }
 {
     let found = take_flag(kind, flags);
-    let taken = match kind {
-        0 => row.pop_first(),
-        1 => row.pop_last(),
-        _ => row.take_first_zero(),
-    };
-    crate::checks::end_unless_equal(rt, "an end is taken", taken, found);
+    crate::checks::end_unless_equal(rt, "an end is taken", bit_taken(kind, row), found);
 }
 
 #[test]

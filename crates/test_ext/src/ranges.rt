@@ -9,6 +9,8 @@ use crate::calls::{
 use crate::checks::same;
 use bittle::{Bits, BitsOwned, LittleEndian, Set};
 use bittle_ext::prelude::*;
+use std::alloc::AllocError;
+use std::process::Abort;
 
 #[test]
 fn the_ones_of_a_range_of_a_word(rt: HostRuntime) {
@@ -37,14 +39,19 @@ fn a_range_of_a_word_from_the_left(rt: HostRuntime) {
     same!(rt; zeros, [Some(3), Some(4), None]);
 }
 
-/// Makes a little-endian set. Returns its first set bit in `8..24` and its last unset bit in
-/// `7..24`.
+/// Returns the first set bit of a set in `8..24` and its last unset bit in `7..24`.
+fn ends_of_ranges<B: Bits>(set: &B) -> ([Option<u32>; 1], [Option<u32>; 1])
+    requires { ShapeFits B.Shape set.now }
+{
+    let first = ones_in_range(set, 8, 24, [FRONT]);
+    (first, zeros_in_range(set, 7, 24, [BACK]))
+}
+
+/// Calls `ends_of_ranges` on a little-endian set.
 fn ends_of_ranges_from_left<T: BitsOwned>(bits: T) -> ([Option<u32>; 1], [Option<u32>; 1])
     requires { IsTrue T.indexable }
 {
-    let set = Set::new_le(bits);
-    let first = ones_in_range(&set, 8, 24, [FRONT]);
-    (first, zeros_in_range(&set, 7, 24, [BACK]))
+    ends_of_ranges(&Set::new_le(bits))
 }
 
 #[test]
@@ -57,23 +64,37 @@ fn a_range_of_a_slice_and_of_a_set(rt: HostRuntime) {
     same!(rt; ends_of_ranges_from_left(bytes), ([Some(15)], [Some(23)]));
 }
 
-/// Takes an item from an iterator over the set bits below 7, and clones the iterator. Returns that
-/// item, and then what the iterator and its clone yield.
-fn source_and_clone<B: Bits>(bits: &B) -> ([Option<u32>; 1], [[Option<u32>; 3]; 2])
+/// Takes an item from an iterator, and clones the iterator. Returns that item, and then what the
+/// iterator and its clone yield.
+fn source_and_clone<W: DoubleEndedIterator<Item = u32> + Clone>(
+    rt: &impl Abort,
+    walk: &mut W,
+) -> ([Option<u32>; 1], [[Option<u32>; 3]; 2])
+    requires front { (w : W) → W.can_next w }
+    requires back { (w : W) → W.can_next_back w }
+{
+    let first = taken(walk, [FRONT]);
+    let clone: Result<W, AllocError> = walk.clone();
+    let mut clone = clone.expect(rt, "the iterator has a clone");
+    let source = taken(walk, [BACK, FRONT, FRONT]);
+    (first, [source, taken(&mut clone, [FRONT, BACK, FRONT])])
+}
+
+/// Calls `source_and_clone` on an iterator over the set bits below 7.
+fn ones_of_source_and_clone<B: Bits>(
+    rt: &impl Abort,
+    bits: &B,
+) -> ([Option<u32>; 1], [[Option<u32>; 3]; 2])
     requires { ShapeFits B.Shape bits.now }
 {
-    let mut walk = bits.iter_ones_in_range(0, 7);
-    let first = taken(&mut walk, [FRONT]);
-    let mut clone = walk.clone().unwrap();
-    let source = taken(&mut walk, [BACK, FRONT, FRONT]);
-    (first, [source, taken(&mut clone, [FRONT, BACK, FRONT])])
+    source_and_clone(rt, &mut bits.iter_ones_in_range(0, 7))
 }
 
 #[test]
 fn a_clone_goes_on_from_its_source(rt: HostRuntime) {
     // Bits 1, 5 and 6 are set.
     let word = 0b0110_0010u8;
-    let (first, [source, clone]) = source_and_clone(&word);
+    let (first, [source, clone]) = ones_of_source_and_clone(&rt, &word);
     same!(rt; (first, source), ([Some(1)], [Some(6), Some(5), None]));
     same!(rt; clone, [Some(5), Some(6), None]);
 }

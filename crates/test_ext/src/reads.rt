@@ -6,7 +6,7 @@ ghost use Rattle.bittle.specs.Values.{ShapeFits};
 use crate::calls::{counts, counts_in, ends, ranks, ranks_in, selected, selected_in, stand};
 use crate::checks::same;
 use bittle::prelude::*;
-use bittle::{LittleEndian, Set};
+use bittle::{Endian, LittleEndian, Set};
 use bittle_ext::prelude::*;
 use std::process::Abort;
 
@@ -101,6 +101,13 @@ fn counted<B: Bits>(set: &B, from: u32, to: u32) -> (u32, u32)
     )
 }
 
+/// Calls `counted` on a set in the order `E`.
+fn counted_in<B: Bits, E: Endian>(set: &B, from: u32, to: u32) -> (u32, u32)
+    requires { ShapeFits B.Shape set.now }
+{
+    counted(&set.in_order::<E>(), from, to)
+}
+
 #[test]
 fn counts_of_ranges(rt: HostRuntime) {
     // Bits 12 to 19 are set.
@@ -110,7 +117,7 @@ fn counts_of_ranges(rt: HostRuntime) {
     same!(rt; counted(&row, 0, 32), (8, 24));
     same!(rt; counted(&row, 10, 14), (2, 2));
     same!(rt; (counted(&row, 7, 7), counted(&row, 32, 32)), ((0, 0), (0, 0)));
-    same!(rt; counted(&row.in_order::<LittleEndian>(), 0, 4), (4, 0));
+    same!(rt; counted_in::<_, LittleEndian>(&row, 0, 4), (4, 0));
 }
 
 /// Returns where the first run of `length` set bits begins, and where the first run of `length`
@@ -187,12 +194,15 @@ fn plain_prev(bits: &[bool; 64], to: u32, value: bool) -> Option<u32> {
 fn read_as_plain<B: Bits>(rt: &impl Abort, set: &B, bits: &[bool; 64], from: u32)
     requires { ShapeFits B.Shape set.now }
 {
-    same!(*rt; set.next_one(from), plain_next(bits, from, true));
-    same!(*rt; set.next_zero(from), plain_next(bits, from, false));
-    same!(*rt; set.prev_one(from), plain_prev(bits, from, true));
-    same!(*rt; set.prev_zero(from), plain_prev(bits, from, false));
+    let around = [
+        plain_next(bits, from, true),
+        plain_prev(bits, from, true),
+        plain_next(bits, from, false),
+        plain_prev(bits, from, false),
+    ];
+    same!(*rt; neighbours(set, from), around);
     same!(*rt; set.rank(from), plain_rank(bits, from));
-    if let Some(index) = set.next_one(from) {
+    if let Some(index) = around[0] {
         same!(*rt; set.select(plain_rank(bits, index)), Some(index));
     }
 }
@@ -289,10 +299,8 @@ fn stand_as_plain<A: Bits, B: Bits>(rt: &impl Abort, one: &A, other: &B, expecte
 {
     let [common, alone] = expected;
     let ([is_subset, _, is_disjoint, intersects], firsts) = stand(one, other);
-    same!(*rt; firsts, expected);
-    same!(*rt; is_subset, alone == None);
-    same!(*rt; is_disjoint, common == None);
-    same!(*rt; intersects, common != None);
+    let relations = [alone.is_none(), common.is_none(), common.is_some()];
+    same!(*rt; ([is_subset, is_disjoint, intersects], firsts), (relations, expected));
 }
 
 #[test]

@@ -90,15 +90,11 @@ fn target(way: u32, index: u32, by: u32, capacity: u32) -> Option<u32>
 {
     let (from, far, all) = (index as u64, by as u64, capacity as u64);
     match way {
-        0 => Some(((from + all - far % all) % all) as u32),
-        1 => Some(((from + far) % all) as u32),
-        2 => if far <= from {
-            Some((from - far) as u32)
-        } else {
-            None
-        },
-        _ => if from + far < all {
-            Some((from + far) as u32)
+        0 => Some((from.wrapping_add(all).wrapping_sub(far % all) % all) as u32),
+        1 => Some((from.wrapping_add(far) % all) as u32),
+        2 => index.checked_sub(by),
+        _ => if from.wrapping_add(far) < all {
+            Some(index.wrapping_add(by))
         } else {
             None
         },

@@ -207,26 +207,31 @@ fn with_four_cleared<B: BitsOwned, E: Endian>(mut row: B) -> B
     row
 }
 
-// Changes four ranges of a set. Returns the set after each change.
-fn after_each_range<B: BitsOwned>(mut row: B) -> [B; 4]
-    requires indexable { IsTrue B.indexable }
-    requires long { 16 ≤ B.type_capacity }
+// Returns a set after the change that `kind` picks, or unchanged if its capacity is below 16. Each
+// change has a range of another form.
+fn after_span<B: BitsMut>(kind: u32, set: B) -> B
+    requires { ShapeFits B.Shape set }
 {
-    row.set_span(6..=10);
-    let first = row;
-    row.clear_span(..7);
-    let second = row;
-    row.toggle_span(9..);
-    let third = row;
-    row.assign_span(..=8, true);
-    [first, second, third, row]
+    let mut now = set;
+    if 16 <= now.bits_capacity() {
+        match kind {
+            0 => now.set_span(6..=10),
+            1 => now.clear_span(..7),
+            2 => now.toggle_span(9..),
+            _ => now.assign_span(..=8, true),
+        }
+    }
+    now
 }
 
 #[test]
 fn ranges_are_changed(rt: HostRuntime) {
-    let [first, second, third, fourth] = after_each_range([0u8; 2]);
-    let fifth = with_four_cleared::<_, LittleEndian>(fourth);
+    let first = after_span(0, [0u8; 2]);
+    let second = after_span(1, first);
+    let third = after_span(2, second);
     same!(rt; (first, second, third), ([0xC0, 0x07], [0x80, 0x07], [0x80, 0xF9]));
+    let fourth = after_span(3, third);
+    let fifth = with_four_cleared::<_, LittleEndian>(fourth);
     same!(rt; (fourth, fifth), ([0xFF, 0xF9], [0x0F, 0xF9]));
 }
 

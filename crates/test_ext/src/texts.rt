@@ -9,19 +9,29 @@ use bittle::{LittleEndian, Set, Shape};
 use bittle_ext::prelude::*;
 use std::alloc::{AllocError, Global};
 use std::fmt;
-use std::fmt::Write;
+use std::fmt::{Display, Write};
 use std::process::Abort;
 use std::test::Fail;
+
+// Checks the text of a value, without and with flags of the format.
+fn is_written<T: Display>(
+    rt: &impl Abort,
+    alloc: Global,
+    value: &T,
+    text: &str,
+) -> Result<(), AllocError> {
+    let made = format!(in alloc; "{}", value)?;
+    crate::checks::end_unless_equal(rt, "the text of the set", made.as_str(), text);
+    let flagged = format!(in alloc; "{:>+#080}", value)?;
+    crate::checks::end_unless_equal(rt, "the text with flags", flagged.as_str(), text);
+    Ok(())
+}
 
 // Checks the binary text of a set, without and with flags of the format.
 fn reads<B: Bits>(rt: &impl Abort, alloc: Global, set: &B, text: &str) -> Result<(), AllocError>
     requires { ShapeFits B.Shape set.now }
 {
-    let made = format!(in alloc; "{}", set.binary_text())?;
-    crate::checks::end_unless_equal(rt, "the text of the set", made.as_str(), text);
-    let flagged = format!(in alloc; "{:>+#080}", set.binary_text())?;
-    crate::checks::end_unless_equal(rt, "the text with flags", flagged.as_str(), text);
-    Ok(())
+    is_written(rt, alloc, &set.binary_text(), text)
 }
 
 // Checks the binary text of a little-endian set.
