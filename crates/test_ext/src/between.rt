@@ -96,19 +96,6 @@ fn the_last_word_alone_changes(rt: HostRuntime) {
     changes(&rt, COMMON, row, &[0xFFFFu16, 1], ([0xFFFF, 1, 0], true));
 }
 
-// Calls `changes_each_way` with a little-endian set.
-fn changes_each_way_by_left<A: BitsOwned + Compared, T: BitsOwned>(
-    rt: &impl Abort,
-    set: A,
-    left: T,
-    expected: [(A, bool); 4],
-)
-    requires indexable { IsTrue A.indexable }
-    requires other_indexable { IsTrue T.indexable }
-{
-    changes_each_way(rt, set, &Set::new_le(left), expected);
-}
-
 #[test]
 fn two_rows_each_in_its_own_order(rt: HostRuntime) {
     // `row` has the members 0, 15 and 33. In little-endian order, `left` has 0, 33 and 63.
@@ -120,7 +107,9 @@ fn two_rows_each_in_its_own_order(rt: HostRuntime) {
         ([0x8000, 0, 0], true),
         ([0x8000, 0, 0], true),
     ];
-    changes_each_way_by_left(&rt, row, left, expected);
+    for kind in 0..4u32 {
+        same!(rt; changed_by_left(kind, row, left), expected[kind as usize]);
+    }
 }
 
 #[test]

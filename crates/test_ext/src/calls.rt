@@ -52,6 +52,41 @@ pub(crate) const LAST: u32 = 1;
 /// Names the first unset bit.
 pub(crate) const UNSET: u32 = 2;
 
+/// Names `insert`, in a call that changes one bit.
+pub(crate) const INSERT: u32 = 0;
+
+/// Names `remove`.
+pub(crate) const REMOVE: u32 = 1;
+
+/// Names `replace`.
+pub(crate) const REPLACE: u32 = 2;
+
+/// Names `toggle`.
+pub(crate) const TOGGLE: u32 = 3;
+
+/// Names `assign`.
+pub(crate) const ASSIGN: u32 = 4;
+
+/// Makes the call that `kind` names on the bit of an index. `value` is the new bit, in a call that
+/// takes one. Returns what the call returns, or `false` if it returns nothing.
+pub(crate) fn bit_changed<B: BitsMut>(kind: u32, set: &mut B, index: u32, value: bool) -> bool
+    requires { IsTrue B.indexable }
+{
+    match kind {
+        INSERT => set.insert(index),
+        REMOVE => set.remove(index),
+        REPLACE => set.replace(index, value),
+        TOGGLE => {
+            set.toggle(index);
+            false
+        }
+        _ => {
+            set.assign(index, value);
+            false
+        }
+    }
+}
+
 /// Takes out the first or the last set bit, or sets the first unset bit, as `kind` names. Returns
 /// the index of this bit.
 pub(crate) fn bit_taken<B: BitsMut>(kind: u32, set: &mut B) -> Option<u32>

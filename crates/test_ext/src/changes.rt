@@ -4,56 +4,37 @@ ghost use Rattle.std.specs.Prelude.{IsTrue};
 ghost use Rattle.bittle.specs.Values.{ShapeFits};
 
 use crate::calls::{
-    Change, FIRST, LAST, UNSET, bit_taken, change_in, extend_by_set, flip, inserted,
+    ASSIGN, Change, FIRST, INSERT, LAST, REMOVE, REPLACE, TOGGLE, UNSET, bit_changed, bit_taken,
+    change_in, extend_by_set, flip, inserted,
 };
 use crate::checks::same;
 use bittle::prelude::*;
 use bittle::{Endian, LittleEndian, Set};
 use bittle_ext::prelude::*;
 
-/// Inserts indexes 0 and 8, and then removes 13 and 5. Returns what the two calls of each pair
-/// return, with the set after the pair.
-fn inserted_and_removed<B: BitsOwned>(mut set: B) -> [([bool; 2], B); 2]
-    requires { IsTrue B.indexable }
-{
-    let inserted = ([set.insert(0), set.insert(8)], set);
-    [inserted, ([set.remove(13), set.remove(5)], set)]
-}
-
 #[test]
 fn one_bit_of_a_word(rt: HostRuntime) {
-    let [inserted, removed] = inserted_and_removed(0b0010_0010u8);
-    same!(rt; inserted, ([true, false], 0b0010_0011));
-    same!(rt; removed, ([true, false], 0b0000_0011));
-}
-
-/// Replaces two bits. Returns what each call returns, with the set after the call.
-fn replaced<B: BitsOwned>(mut set: B) -> [(bool, B); 2]
-    requires { IsTrue B.indexable }
-{
-    let first = (set.replace(1, false), set);
-    [first, (set.replace(9, true), set)]
-}
-
-/// Returns the set after `assign` clears a bit, after `assign` sets a bit, and after two bits are
-/// flipped.
-fn assigned_and_toggled<B: BitsOwned>(mut set: B) -> [B; 3]
-    requires { IsTrue B.indexable }
-{
-    set.assign(8, false);
-    let cleared = set;
-    set.assign(9, true);
-    let assigned = set;
-    set.toggle(7);
-    set.toggle(1);
-    [cleared, assigned, set]
+    let mut word = 0b0010_0010u8;
+    same!(rt; bit_changed(INSERT, &mut word, 0, true), true);
+    same!(rt; bit_changed(INSERT, &mut word, 8, true), false);
+    same!(rt; word, 0b0010_0011);
+    same!(rt; bit_changed(REMOVE, &mut word, 13, false), true);
+    same!(rt; bit_changed(REMOVE, &mut word, 5, false), false);
+    same!(rt; word, 0b0000_0011);
 }
 
 #[test]
 fn a_bit_by_its_value(rt: HostRuntime) {
-    let [cleared, set] = replaced(0b0011u8);
-    same!(rt; (cleared, set), ((true, 0b0001), (false, 0b0011)));
-    same!(rt; assigned_and_toggled(0b0011u8), [0b0010, 0b0010, 0b1000_0000]);
+    let mut word = 0b0011u8;
+    same!(rt; (bit_changed(REPLACE, &mut word, 1, false), word), (true, 0b0001));
+    same!(rt; (bit_changed(REPLACE, &mut word, 9, true), word), (false, 0b0011));
+    bit_changed(ASSIGN, &mut word, 8, false);
+    same!(rt; word, 0b0010);
+    bit_changed(ASSIGN, &mut word, 9, true);
+    same!(rt; word, 0b0010);
+    bit_changed(TOGGLE, &mut word, 7, true);
+    bit_changed(TOGGLE, &mut word, 1, true);
+    same!(rt; word, 0b1000_0000);
 }
 
 /// Inserts an index into a little-endian set. Returns what the call returns, with the changed set.
@@ -73,27 +54,14 @@ fn one_bit_of_longer_shapes(rt: HostRuntime) {
     same!(rt; words, [0, 2]);
 }
 
-/// Inserts an index into a set of capacity 0, removes the index, and replaces its bit. Returns what
-/// each call returns.
-fn asked_of_no_bit<B: BitsMut>(none: &mut B) -> [bool; 3]
-    requires { IsTrue B.indexable }
-{
-    [none.insert(3), none.remove(3), none.replace(3, true)]
-}
-
-/// Flips a bit of a set of capacity 0, and inserts a list of indexes.
-fn change_no_bit<B: BitsMut>(none: &mut B)
-    requires { IsTrue B.indexable }
-{
-    none.toggle(0);
-    none.insert_all(&[1, 2]);
-}
-
 #[test]
 fn capacity_0_is_never_changed(rt: HostRuntime) {
     let mut none: [u8; 0] = [];
-    same!(rt; asked_of_no_bit(&mut none), [true, false, false]);
-    change_no_bit(&mut none);
+    same!(rt; bit_changed(INSERT, &mut none, 3, true), true);
+    same!(rt; bit_changed(REMOVE, &mut none, 3, false), false);
+    same!(rt; bit_changed(REPLACE, &mut none, 3, true), false);
+    bit_changed(TOGGLE, &mut none, 0, true);
+    List([1, 2]).change(&mut none);
     let mut none = after_range(SET, none, 0, 0);
     flip(&mut none);
     let ends = (bit_taken(FIRST, &mut none), bit_taken(LAST, &mut none));
@@ -106,11 +74,8 @@ const SET: u32 = 0;
 /// Names `clear_range`.
 const CLEAR: u32 = 1;
 
-/// Names `toggle_range`.
-const TOGGLE: u32 = 2;
-
-/// Names `assign_range` with the value `true`.
-const FILL: u32 = 3;
+/// Names `assign_range` with the value `true`. `TOGGLE` names `toggle_range`.
+const FILL: u32 = 2;
 
 /// Names `assign_range` with the value `false`.
 const EMPTY: u32 = 4;
@@ -182,15 +147,6 @@ impl Change for Ends {
     }
 }
 
-/// Takes out the first set bit and then the last, in the order `E`. Returns both, with the set that
-/// is left.
-fn popped_in<B: BitsOwned, E: Endian>(mut row: B) -> ([Option<u32>; 2], B)
-    requires { IsTrue B.indexable }
-{
-    let ends = change_in::<B, E, _>(&Ends, &mut row);
-    (ends, row)
-}
-
 #[test]
 fn ends_are_taken_out(rt: HostRuntime) {
     // Bits 0, 15 and 17 are set.
@@ -201,8 +157,9 @@ fn ends_are_taken_out(rt: HostRuntime) {
     let none = (bit_taken(FIRST, &mut row), bit_taken(LAST, &mut row));
     same!(rt; none, (None, None));
     // In little-endian order, bits 3, 8 and 15 are set.
-    let left = popped_in::<_, LittleEndian>([0x10u8, 0x81]);
-    same!(rt; left, ([Some(3), Some(15)], [0, 0x80]));
+    let mut left = [0x10u8, 0x81];
+    let ends = change_in::<_, LittleEndian, _>(&Ends, &mut left);
+    same!(rt; (ends, left), ([Some(3), Some(15)], [0, 0x80]));
 }
 
 /// A change that sets the first unset bit. The answer is the index of this bit.
@@ -213,31 +170,19 @@ impl Change for Slot {
     type Answer = Option<u32>;
 
     fn change<B: BitsMut>(&self, set: &mut B) -> Option<u32> {
-        set.take_first_zero()
+        bit_taken(UNSET, set)
     }
-}
-
-/// Sets the first unset bit, and returns its index with the changed set.
-fn slot_taken<B: BitsOwned>(mut row: B) -> (Option<u32>, B)
-    requires { IsTrue B.indexable }
-{
-    (Slot.change(&mut row), row)
-}
-
-/// Sets the first unset bit in the order `E`, and returns its index with the changed set.
-fn slot_taken_in<B: BitsOwned, E: Endian>(mut row: B) -> (Option<u32>, B)
-    requires { IsTrue B.indexable }
-{
-    let slot = change_in::<B, E, _>(&Slot, &mut row);
-    (slot, row)
 }
 
 #[test]
 fn free_slots_are_taken(rt: HostRuntime) {
-    same!(rt; slot_taken([0xFFu8, 0x0F]), (Some(12), [0xFF, 0x1F]));
-    let left = slot_taken_in::<_, LittleEndian>([0xFFu8, 0xC1]);
-    same!(rt; left, (Some(10), [0xFF, 0xE1]));
-    same!(rt; slot_taken(255u8), (None, 255));
+    let mut row = [0xFFu8, 0x0F];
+    same!(rt; (bit_taken(UNSET, &mut row), row), (Some(12), [0xFF, 0x1F]));
+    let mut left = [0xFFu8, 0xC1];
+    let slot = change_in::<_, LittleEndian, _>(&Slot, &mut left);
+    same!(rt; (slot, left), (Some(10), [0xFF, 0xE1]));
+    let mut full = 255u8;
+    same!(rt; (bit_taken(UNSET, &mut full), full), (None, 255));
 }
 
 /// A change that inserts a list of indexes.
@@ -250,16 +195,6 @@ impl<const N: usize> Change for List<N> {
     fn change<B: BitsMut>(&self, set: &mut B) {
         set.insert_all(&self.0);
     }
-}
-
-/// Inserts a list of indexes, and then another list in the order `E`. Returns the set after each.
-fn with_lists<B: BitsOwned, E: Endian>(mut set: B) -> [B; 2]
-    requires { IsTrue B.indexable }
-{
-    List([0, 7, 9, 7]).change(&mut set);
-    let first = set;
-    change_in::<B, E, _>(&List([2]), &mut set);
-    [first, set]
 }
 
 /// A change that inserts the indexes that an iterator over the set bits of a byte yields.
@@ -287,8 +222,11 @@ fn extended<B: BitsOwned, E: Endian>(mut row: B) -> [B; 2]
 
 #[test]
 fn lists_and_iterators_are_set(rt: HostRuntime) {
-    let words = with_lists::<_, LittleEndian>(0b0001_0000u8);
-    same!(rt; words, [0b1001_0011, 0b1011_0011]);
+    let mut word = 0b0001_0000u8;
+    List([0, 7, 9, 7]).change(&mut word);
+    same!(rt; word, 0b1001_0011);
+    change_in::<_, LittleEndian, _>(&List([2]), &mut word);
+    same!(rt; word, 0b1011_0011);
     let [first, second] = extended::<_, LittleEndian>([0u8; 2]);
     same!(rt; (first, second), ([0xC0, 0x07], [0xE0, 0x07]));
 }
@@ -336,15 +274,27 @@ fn bits_of_a_lent_slice_that_are_kept(rt: HostRuntime) {
     same!(rt; words, [0b01, 0b100]);
 }
 
+/// A change that keeps those set bits for which a table of eight flags says so.
+#[derive(Drop)]
+struct ByTable([bool; 8]);
+
+impl Change for ByTable {
+    type Answer = ();
+
+    fn change<B: BitsMut>(&self, set: &mut B) {
+        let table = self.0;
+        set.retain(|index| table[(index % 8) as usize]);
+    }
+}
+
 #[test]
 fn bits_that_a_table_keeps(rt: HostRuntime) {
     let table = [true, false, true, false, false, true, true, false];
     let mut word = 0b0110_1110u8;
-    word.retain(|index| table[index as usize]);
+    ByTable(table).change(&mut word);
     same!(rt; word, 0b0110_0100);
     let mut left = 0b0110_1110u8;
-    left.in_order_mut::<LittleEndian>()
-        .retain(|index| table[index as usize]);
+    change_in::<_, LittleEndian, _>(&ByTable(table), &mut left);
     same!(rt; left, 0b0010_0110);
 }
 

@@ -4,7 +4,7 @@
 ghost use Rattle.std.specs.Prelude.{IsTrue};
 ghost use Rattle.bittle.specs.Values.{ShapeFits};
 
-use crate::calls::{Change, change_in};
+use crate::calls::{Change, INSERT, REMOVE, change_in};
 use crate::checks::same;
 use bittle::prelude::*;
 use bittle::{BitsOwned, LittleEndian, Set};
@@ -74,98 +74,78 @@ fn questions_of_an_empty_row(rt: HostRuntime) {
     same!(rt; asked(&[0u8; 0], [0, 1, u32::MAX]), none);
 }
 
-// Tries to set bits 7 and 9, and then to clear bits 7 and 8. Returns what the two calls of each
-// pair return, with the set after the pair.
-fn set_and_cleared<B: BitsOwned>(mut word: B) -> [([bool; 2], B); 2]
+// Names `try_set_bit`, in a call of `tried`. `INSERT` names `try_insert`, and `REMOVE` names
+// `try_remove`.
+const SET_BIT: u32 = 2;
+
+// Names `try_clear_bit`.
+const CLEAR_BIT: u32 = 3;
+
+// Makes the call that `kind` names, and returns what it returns.
+pub(crate) fn tried<B: BitsMut>(kind: u32, set: &mut B, index: u32) -> Option<bool>
     requires { IsTrue B.indexable }
 {
-    let set = ([word.try_set_bit(7), word.try_set_bit(9)], word);
-    [set, ([word.try_clear_bit(7), word.try_clear_bit(8)], word)]
+    match kind {
+        INSERT => set.try_insert(index),
+        REMOVE => set.try_remove(index),
+        SET_BIT => Some(set.try_set_bit(index)),
+        _ => Some(set.try_clear_bit(index)),
+    }
 }
 
 #[test]
 fn changes_of_words(rt: HostRuntime) {
-    let [set, cleared] = set_and_cleared(0b0001u8);
-    same!(rt; set, ([true, false], 0b1000_0001));
-    same!(rt; cleared, ([true, false], 0b0000_0001));
-}
-
-// Inserts index 3 twice, and then an index past a capacity of 8. Returns what each call returns,
-// with the changed set.
-fn inserted<B: BitsOwned>(mut word: B) -> ([Option<bool>; 3], B)
-    requires { IsTrue B.indexable }
-{
-    let answers = [word.try_insert(3), word.try_insert(3), word.try_insert(12)];
-    (answers, word)
-}
-
-// Removes index 0 twice, and then an index past a capacity of 8. Returns what each call returns,
-// with the changed set.
-fn removed<B: BitsOwned>(mut word: B) -> ([Option<bool>; 3], B)
-    requires { IsTrue B.indexable }
-{
-    let answers = [word.try_remove(0), word.try_remove(0), word.try_remove(11)];
-    (answers, word)
+    let mut word = 0b0001u8;
+    let answers = [tried(SET_BIT, &mut word, 7), tried(SET_BIT, &mut word, 9)];
+    same!(rt; (answers, word), ([Some(true), Some(false)], 0b1000_0001));
+    let answers = [
+        tried(CLEAR_BIT, &mut word, 7),
+        tried(CLEAR_BIT, &mut word, 8),
+    ];
+    same!(rt; (answers, word), ([Some(true), Some(false)], 0b0000_0001));
 }
 
 #[test]
 fn insertions_of_words(rt: HostRuntime) {
-    same!(rt; inserted(0b0001u8), ([Some(true), Some(false), None], 0b1001));
-    same!(rt; removed(0b1001u8), ([Some(true), Some(false), None], 0b1000));
+    let mut word = 0b0001u8;
+    let (first, second) = (tried(INSERT, &mut word, 3), tried(INSERT, &mut word, 3));
+    let answers = [first, second, tried(INSERT, &mut word, 12)];
+    same!(rt; (answers, word), ([Some(true), Some(false), None], 0b1001));
+    let (first, second) = (tried(REMOVE, &mut word, 0), tried(REMOVE, &mut word, 0));
+    let answers = [first, second, tried(REMOVE, &mut word, 11)];
+    same!(rt; (answers, word), ([Some(true), Some(false), None], 0b1000));
 }
 
-// A change that tries to insert indexes 8 and 24 and to set bit 23. The answer is what each call
-// returns.
+// A change that makes a call of `tried` with this kind and index. The answer is what it returns.
 #[derive(Drop)]
-struct Put;
+struct Attempt(u32, u32);
 
-impl Change for Put {
-    type Answer = ([Option<bool>; 2], bool);
+impl Change for Attempt {
+    type Answer = Option<bool>;
 
-    fn change<B: BitsMut>(&self, row: &mut B) -> ([Option<bool>; 2], bool) {
-        ([row.try_insert(8), row.try_insert(24)], row.try_set_bit(23))
-    }
-}
-
-// A change that tries to remove index 8 and to clear bits 23 and 31. The answer is what each call
-// returns.
-#[derive(Drop)]
-struct Take;
-
-impl Change for Take {
-    type Answer = (Option<bool>, [bool; 2]);
-
-    fn change<B: BitsMut>(&self, row: &mut B) -> (Option<bool>, [bool; 2]) {
-        (
-            row.try_remove(8),
-            [row.try_clear_bit(23), row.try_clear_bit(31)],
-        )
+    fn change<B: BitsMut>(&self, row: &mut B) -> Option<bool> {
+        tried(self.0, row, self.1)
     }
 }
 
 #[test]
 fn changes_of_rows_from_the_left(rt: HostRuntime) {
     let mut row = [0u8; 3];
-    let answers = change_in::<_, LittleEndian, _>(&Put, &mut row);
-    same!(rt; answers, ([Some(true), None], true));
+    same!(rt; change_in::<_, LittleEndian, _>(&Attempt(INSERT, 8), &mut row), Some(true));
+    same!(rt; change_in::<_, LittleEndian, _>(&Attempt(INSERT, 24), &mut row), None);
+    same!(rt; change_in::<_, LittleEndian, _>(&Attempt(SET_BIT, 23), &mut row), Some(true));
     same!(rt; row, [0, 0x80, 1]);
-    let answers = change_in::<_, LittleEndian, _>(&Take, &mut row);
-    same!(rt; answers, (Some(true), [true, false]));
+    same!(rt; change_in::<_, LittleEndian, _>(&Attempt(REMOVE, 8), &mut row), Some(true));
+    same!(rt; change_in::<_, LittleEndian, _>(&Attempt(CLEAR_BIT, 23), &mut row), Some(true));
+    same!(rt; change_in::<_, LittleEndian, _>(&Attempt(CLEAR_BIT, 31), &mut row), Some(false));
     same!(rt; row, [0, 0, 0]);
-}
-
-// Tries each of the four changes on a set of capacity 0, and returns what each call returns.
-fn refused<B: BitsMut>(row: &mut B) -> ([bool; 2], [Option<bool>; 2])
-    requires { ShapeFits B.Shape row.old }
-{
-    (
-        [row.try_set_bit(0), row.try_clear_bit(0)],
-        [row.try_insert(0), row.try_remove(u32::MAX)],
-    )
 }
 
 #[test]
 fn changes_of_an_empty_row(rt: HostRuntime) {
     let mut row = [0u64; 0];
-    same!(rt; refused(&mut row), ([false, false], [None, None]));
+    same!(rt; tried(SET_BIT, &mut row, 0), Some(false));
+    same!(rt; tried(CLEAR_BIT, &mut row, 0), Some(false));
+    same!(rt; tried(INSERT, &mut row, 0), None);
+    same!(rt; tried(REMOVE, &mut row, u32::MAX), None);
 }

@@ -105,61 +105,7 @@ impl Compared for Option<bool> {
     }
 }
 
-impl<const N: usize> Compared for [bool; N] {
-    fn compare(self, wanted: Self, rt: &impl Abort, text: &str) {
-        end_unless_equal(rt, text, self, wanted)
-    }
-}
-
-impl<const N: usize> Compared for [u8; N] {
-    fn compare(self, wanted: Self, rt: &impl Abort, text: &str) {
-        end_unless_equal(rt, text, self, wanted)
-    }
-}
-
-impl<const N: usize> Compared for [u16; N] {
-    fn compare(self, wanted: Self, rt: &impl Abort, text: &str) {
-        end_unless_equal(rt, text, self, wanted)
-    }
-}
-
-impl<const N: usize> Compared for [u32; N] {
-    fn compare(self, wanted: Self, rt: &impl Abort, text: &str) {
-        end_unless_equal(rt, text, self, wanted)
-    }
-}
-
-impl<const N: usize> Compared for [u64; N] {
-    fn compare(self, wanted: Self, rt: &impl Abort, text: &str) {
-        end_unless_equal(rt, text, self, wanted)
-    }
-}
-
-impl<const N: usize> Compared for [u128; N] {
-    fn compare(self, wanted: Self, rt: &impl Abort, text: &str) {
-        end_unless_equal(rt, text, self, wanted)
-    }
-}
-
-impl<const N: usize> Compared for [i16; N] {
-    fn compare(self, wanted: Self, rt: &impl Abort, text: &str) {
-        end_unless_equal(rt, text, self, wanted)
-    }
-}
-
-impl<const N: usize> Compared for [Option<u32>; N] {
-    fn compare(self, wanted: Self, rt: &impl Abort, text: &str) {
-        end_unless_equal(rt, text, self, wanted)
-    }
-}
-
-impl<const N: usize> Compared for [Option<bool>; N] {
-    fn compare(self, wanted: Self, rt: &impl Abort, text: &str) {
-        end_unless_equal(rt, text, self, wanted)
-    }
-}
-
-impl<const N: usize> Compared for [Option<(u32, u32)>; N] {
+impl<T: PartialEq + Debug + Copy, const N: usize> Compared for [T; N] {
     fn compare(self, wanted: Self, rt: &impl Abort, text: &str) {
         end_unless_equal(rt, text, self, wanted)
     }

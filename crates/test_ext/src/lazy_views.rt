@@ -294,7 +294,7 @@ fn views_of_views(rt: HostRuntime) {
 }
 
 #[test]
-fn capacity_0_and_a_slice(rt: HostRuntime) {
+fn capacity_0(rt: HostRuntime) {
     let none: [u64; 0] = [];
     let empty = (true, true);
     same!(rt; ask_both(&Reading, &none, &0xFFu8), (0, 0, [None, None]));
@@ -302,6 +302,10 @@ fn capacity_0_and_a_slice(rt: HostRuntime) {
     same!(rt; (ask_unset(&Whole, &none), ask_within(&Whole, &none, 0, 0)), (empty, empty));
     same!(rt; ask_alone(&Tested([3, 0]), &none, &7u8), [false, false]);
     same!(rt; ask_just_one(&Tested([7, 0]), &none, &0x80u8), [true, false]);
+}
+
+#[test]
+fn a_slice(rt: HostRuntime) {
     let words = [1u64, 0, 0, 0, 0, 1 << 63];
     let slice: &[u64] = &words[..5];
     same!(rt; ask_both(&Reading, &slice, &words), (320, 1, [Some(0), Some(0)]));

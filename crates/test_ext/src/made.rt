@@ -24,53 +24,51 @@ fn complements(rt: HostRuntime) {
     same!(rt; complement_of(none), none);
 }
 
-/// Returns `none` with the range `6..11` set, and `all` with that range cleared.
-fn with_and_without<B: BitsOwned>(none: B, all: B) -> [B; 2]
-    requires indexable { IsTrue B.indexable }
-    requires long { 11 ≤ B.type_capacity }
-{
-    [none.with_range(6, 11), all.without_range(6, 11)]
-}
+/// Names `with_range`, in a call of `with_change`.
+const SET: u32 = 0;
 
-/// Returns `some` with its first four bits flipped, `none` with an empty range set, and `all` with
-/// its first eight bits cleared.
-fn toggled_and_others<B: BitsOwned>(some: B, none: B, all: B) -> [B; 3]
+/// Names `without_range`.
+const CLEAR: u32 = 1;
+
+/// Names `with_range_toggled`.
+const FLIP: u32 = 2;
+
+/// Returns a set with the range `from..to` changed by the call that `kind` names.
+fn with_change<B: BitsOwned>(kind: u32, set: B, from: u32, to: u32) -> B
     requires indexable { IsTrue B.indexable }
-    requires long { 8 ≤ B.type_capacity }
+    requires ordered { from ≤ to }
+    requires within { to ≤ B.type_capacity }
 {
-    [
-        some.with_range_toggled(0, 4),
-        none.with_range(8, 8),
-        all.without_range(0, 8),
-    ]
+    match kind {
+        SET => set.with_range(from, to),
+        CLEAR => set.without_range(from, to),
+        _ => set.with_range_toggled(from, to),
+    }
 }
 
 #[test]
 fn ranges(rt: HostRuntime) {
-    let [with, without] = with_and_without([0u8; 2], [0xFF; 2]);
-    same!(rt; (with, without), ([0xC0, 0x07], [0x3F, 0xF8]));
-    same!(rt; toggled_and_others(0b0011_1100u8, 0, 0xFF), [0b0011_0011, 0, 0]);
+    same!(rt; with_change(SET, [0u8; 2], 6, 11), [0xC0, 0x07]);
+    same!(rt; with_change(CLEAR, [0xFFu8; 2], 6, 11), [0x3F, 0xF8]);
+    same!(rt; with_change(FLIP, 0b0011_1100u8, 0, 4), 0b0011_0011);
+    same!(rt; with_change(SET, 0u8, 8, 8), 0);
+    same!(rt; with_change(CLEAR, 0xFFu8, 0, 8), 0);
 }
 
-/// Returns `none` with the range `0..3` set, `all` with that range cleared, and `some` with the
-/// range `1..4` flipped.
-fn each_with_its_range<B: BitsOwned>(none: B, all: B, some: B) -> [B; 3]
-    requires indexable { IsTrue B.indexable }
-    requires long { 4 ≤ B.type_capacity }
+/// Calls `with_change` on a little-endian set.
+fn left_with_change<T: BitsOwned>(kind: u32, left: T, from: u32, to: u32) -> T
+    requires indexable { IsTrue T.indexable }
+    requires ordered { from ≤ to }
+    requires within { to ≤ T.type_capacity }
 {
-    [
-        none.with_range(0, 3),
-        all.without_range(0, 3),
-        some.with_range_toggled(1, 4),
-    ]
+    with_change(kind, Set::new_le(left), from, to).into_bits()
 }
 
 #[test]
 fn ranges_from_the_left(rt: HostRuntime) {
-    let [none, all] = [Set::new_le(0u8), Set::new_le(0xFFu8)];
-    let [with, without, toggled] = each_with_its_range(none, all, Set::new_le(0b1100_0000u8));
-    same!(rt; (with.into_bits(), without.into_bits()), (0b1110_0000, 0b0001_1111));
-    same!(rt; toggled.into_bits(), 0b1011_0000);
+    same!(rt; left_with_change(SET, 0u8, 0, 3), 0b1110_0000);
+    same!(rt; left_with_change(CLEAR, 0xFFu8, 0, 3), 0b0001_1111);
+    same!(rt; left_with_change(FLIP, 0b1100_0000u8, 1, 4), 0b1011_0000);
 }
 
 /// Returns the set of three indexes, the set of an empty list, and the set of a range.

@@ -6,9 +6,10 @@ ghost use Rattle.bittle_ext.specs.Views.{rounded_up};
 ghost use Rattle.bittle.specs.Values.{ShapeFits};
 
 use crate::calls::{
-    BACK, FRONT, bit_taken, combination, extend_by_set, one_runs, ones_in_range, set_of, zero_runs,
-    zeros_in_range,
+    BACK, FRONT, INSERT, REMOVE, TOGGLE, bit_changed, bit_taken, combination, extend_by_set,
+    one_runs, ones_in_range, set_of, zero_runs, zeros_in_range,
 };
+use crate::checked_indexes::tried;
 use crate::checks::same;
 use crate::rotations::moved;
 use bittle::{Bits, BitsMut, BitsOwned};
@@ -50,19 +51,17 @@ fn change_one<B: BitsMut>(
 {
     let at = (index % 24) as usize;
     let before = flags[at];
-    let (call, was_set) = match kind {
-        0 => ("insert", !row.insert(index)),
-        1 => ("remove", row.remove(index)),
-        2 => ("replace", row.replace(index, !before)),
-        _ => {
-            row.toggle(index);
-            ("toggle", before)
-        }
+    let told = bit_changed(kind, row, index, !before);
+    // `insert` returns whether the bit was unset, and `toggle` returns nothing.
+    let expected = match kind {
+        INSERT => !before,
+        TOGGLE => false,
+        _ => before,
     };
-    crate::checks::end_unless_equal(rt, call, was_set, before);
+    crate::checks::end_unless_equal(rt, "a changed bit", (kind, told), (kind, expected));
     flags[at] = match kind {
-        0 => true,
-        1 => false,
+        INSERT => true,
+        REMOVE => false,
         _ => !before,
     };
 }
@@ -80,13 +79,13 @@ fn change_checked<B: BitsMut>(
 {
     let before = flags.get(index as usize).copied();
     same!(*rt; (row.contains_index(index), row.get_bit(index)), (before == Some(true), before));
-    let was_set = match kind {
-        0 => row.try_insert(index).map(|unset| !unset),
-        1 => row.try_remove(index),
-        2 => row.try_set_bit(index).then_some(before == Some(true)),
-        _ => row.try_clear_bit(index).then_some(before == Some(true)),
+    let expected = match (kind, before) {
+        (INSERT, Some(flag)) => Some(!flag),
+        (INSERT, None) => None,
+        (REMOVE, _) => before,
+        _ => Some(before.is_some()),
     };
-    same!(*rt; was_set, before);
+    same!(*rt; tried(kind, row, index), expected);
     if let Some(flag) = flags.get_mut(index as usize) {
         *flag = kind % 2 == 0;
     }

@@ -90,8 +90,8 @@ fn target(way: u32, index: u32, by: u32, capacity: u32) -> Option<u32>
 {
     let (from, far, all) = (index as u64, by as u64, capacity as u64);
     match way {
-        0 => Some((from.wrapping_add(all).wrapping_sub(far % all) % all) as u32),
-        1 => Some((from.wrapping_add(far) % all) as u32),
+        0 | 4 => Some((from.wrapping_add(all).wrapping_sub(far % all) % all) as u32),
+        1 | 5 => Some((from.wrapping_add(far) % all) as u32),
         2 => index.checked_sub(by),
         _ => if from.wrapping_add(far) < all {
             Some(index.wrapping_add(by))
@@ -118,7 +118,7 @@ fn looped<B: BitsOwned, E: Endian>(way: u32, set: &B, by: u32) -> B
 }
 
 // Makes one call that moves all bits of the set by `by` indexes, and returns the set. `way` selects
-// one of four calls. Indexes follow the bit order `E`.
+// one of six calls. Indexes follow the bit order `E`.
 fn moved_in<B: BitsOwned, E: Endian>(way: u32, set: B, by: u32) -> B
     requires { IsTrue B.indexable }
 {
@@ -126,7 +126,7 @@ fn moved_in<B: BitsOwned, E: Endian>(way: u32, set: B, by: u32) -> B
 }
 
 // Returns `set` with its bits moved by `by` indexes, in the order of the type. `way` selects one of
-// four calls.
+// four calls, or, if it is 4 or 5, one of two rotations in place.
 pub(crate) fn moved<B: BitsOwned>(way: u32, set: B, by: u32) -> B
     requires { IsTrue B.indexable }
 {
@@ -134,35 +134,16 @@ pub(crate) fn moved<B: BitsOwned>(way: u32, set: B, by: u32) -> B
         0 => set.rotated_down(by),
         1 => set.rotated_up(by),
         2 => set.shifted_down(by),
-        _ => set.shifted_up(by),
+        3 => set.shifted_up(by),
+        _ => turned(way != 4, set, by),
     }
 }
 
-// Rotates a set in place, down if `way` is 0, else up, and returns the set. Indexes follow the bit
-// order `E`.
-fn turned_in<B: BitsOwned, E: Endian>(way: u32, set: B, by: u32) -> B
-    requires { IsTrue B.indexable }
-{
-    turned(way != 0, Set::<B, E>::new_in(set), by).into_bits()
-}
-
-// Compares rotations in place with the loop of `looped`, for one distance.
-fn agree_in_place<B: BitsOwned>(rt: &impl Abort, set: B, by: u32)
-    requires { IsTrue B.indexable }
-{
-    for way in 0..2u32 {
-        let left = turned_in::<B, LittleEndian>(way, set, by);
-        crate::checks::ask(rt, "LE", left == looped::<B, LittleEndian>(way, &set, by));
-        let right = turned_in::<B, BigEndian>(way, set, by);
-        crate::checks::ask(rt, "BE", right == looped::<B, BigEndian>(way, &set, by));
-    }
-}
-
-// Compares the four calls of `moved` with the loop of `looped`, for one distance.
+// Compares the six calls of `moved` with the loop of `looped`, for one distance.
 fn agree_at<B: BitsOwned>(rt: &impl Abort, set: B, by: u32)
     requires { IsTrue B.indexable }
 {
-    for way in 0..4u32 {
+    for way in 0..6u32 {
         let left = moved_in::<B, LittleEndian>(way, set, by);
         crate::checks::ask(rt, "LE", left == looped::<B, LittleEndian>(way, &set, by));
         let right = moved_in::<B, BigEndian>(way, set, by);
@@ -172,8 +153,7 @@ fn agree_at<B: BitsOwned>(rt: &impl Abort, set: B, by: u32)
     }
 }
 
-// Does the same as `agree_at` and `agree_in_place`, for distances near the width of a word and near
-// the capacity.
+// Does the same as `agree_at` for distances near the width of a word and near the capacity.
 fn agree<B: BitsOwned>(rt: &impl Abort, width: u32, set: B)
     requires { IsTrue B.indexable }
 {
@@ -190,7 +170,6 @@ fn agree<B: BitsOwned>(rt: &impl Abort, width: u32, set: B)
         u32::MAX,
     ] {
         agree_at(rt, set, by);
-        agree_in_place(rt, set, by);
     }
 }
 
