@@ -15,20 +15,12 @@ use std::process::Abort;
 fn asked<B: Bits>(bits: &B, indexes: [u32; 3]) -> ([bool; 3], [Option<bool>; 3])
     requires { ShapeFits B.Shape bits.now }
 {
-    let [first, second, third] = indexes;
-    let contained = [
-        bits.contains_index(first),
-        bits.contains_index(second),
-        bits.contains_index(third),
-    ];
-    (
-        contained,
-        [
-            bits.get_bit(first),
-            bits.get_bit(second),
-            bits.get_bit(third),
-        ],
-    )
+    let (mut contained, mut bit) = ([false; 3], [None; 3]);
+    for k in 0..3usize {
+        contained[k] = bits.contains_index(indexes[k]);
+        bit[k] = bits.get_bit(indexes[k]);
+    }
+    (contained, bit)
 }
 
 // Checks what `asked` returns for a set bit, an unset bit, and an index at or past the capacity.

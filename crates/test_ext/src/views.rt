@@ -5,7 +5,7 @@ ghost use Rattle.std.specs.Prelude.{IsTrue};
 ghost use Rattle.bittle.specs.Values.{ShapeFits};
 
 use crate::calls::{Change, change_in};
-use crate::checks::{holds, same};
+use crate::checks::same;
 use bittle::prelude::*;
 use bittle::{BigEndian, Bits, BitsMut, Endian, LittleEndian, Set};
 use bittle_ext::prelude::*;
@@ -68,12 +68,18 @@ fn a_view_of_a_view_has_the_order_that_is_named_last(rt: HostRuntime) {
     same!(rt; read::<_, BigEndian>(&left), (8, 3, true, [Some(0), Some(5)]));
 }
 
+/// Returns whether all bits of a set are unset, and whether all are set.
+fn whole<B: Bits>(bits: &B) -> (bool, bool)
+    requires { ShapeFits B.Shape bits.now }
+{
+    (bits.all_zeros(), bits.all_ones())
+}
+
 #[test]
 fn capacity_0_is_read(rt: HostRuntime) {
     let none: [u8; 0] = [];
     same!(rt; read::<_, LittleEndian>(&none), (0, 0, false, [None, None]));
-    let view = none.in_order::<LittleEndian>();
-    holds!(rt; view.all_zeros() && view.all_ones());
+    same!(rt; whole(&none.in_order::<LittleEndian>()), (true, true));
 }
 
 /// A change that flips bit 1, sets bit 0 and clears bit 3. The answer is what `insert` and `remove`

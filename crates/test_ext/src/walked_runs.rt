@@ -8,7 +8,6 @@ use bittle::{Bits, LittleEndian};
 use bittle_ext::prelude::*;
 use std::alloc::AllocError;
 use std::ops::Range;
-use std::process::Abort;
 
 #[test]
 fn the_runs_of_a_word(rt: HostRuntime) {
@@ -44,31 +43,32 @@ fn one_run_or_none(rt: HostRuntime) {
 }
 
 // Returns the runs that an iterator yields from its front. Then returns those that its clone yields
-// once from the back and twice from the front.
+// once from the back and twice from the front. If the iterator cannot be cloned, all are `None`.
 fn runs_and_of_a_clone<W: DoubleEndedIterator<Item = Range<u32>> + Clone>(
-    rt: &impl Abort,
     walk: &mut W,
 ) -> [[Option<(u32, u32)>; 3]; 2]
     requires front { (w : W) → W.can_next w }
     requires back { (w : W) → W.can_next_back w }
 {
     let clone: Result<W, AllocError> = walk.clone();
-    let mut clone = clone.expect(rt, "the iterator has a clone");
+    let Ok(mut clone) = clone else {
+        return [[None; 3]; 2];
+    };
     let runs = runs_taken(walk, [FRONT; 3]);
     [runs, runs_taken(&mut clone, [BACK, FRONT, FRONT])]
 }
 
 // Calls `runs_and_of_a_clone` on an iterator over the runs of set bits.
-fn one_runs_and_of_a_clone<B: Bits>(rt: &impl Abort, bits: &B) -> [[Option<(u32, u32)>; 3]; 2]
+fn one_runs_and_of_a_clone<B: Bits>(bits: &B) -> [[Option<(u32, u32)>; 3]; 2]
     requires { ShapeFits B.Shape bits.now }
 {
-    runs_and_of_a_clone(rt, &mut bits.iter_one_runs())
+    runs_and_of_a_clone(&mut bits.iter_one_runs())
 }
 
 #[test]
 fn a_clone_goes_on_from_its_source(rt: HostRuntime) {
     // Bits 1, 5 and 6 are set.
-    let [runs, of_clone] = one_runs_and_of_a_clone(&rt, &0b0110_0010u8);
+    let [runs, of_clone] = one_runs_and_of_a_clone(&0b0110_0010u8);
     same!(rt; runs, [Some((1, 2)), Some((5, 7)), None]);
     same!(rt; of_clone, [Some((5, 7)), Some((1, 2)), None]);
 }
