@@ -496,13 +496,19 @@ fn zero_ranks<B: Bits, const N: usize>(set: &B, indexes: [u32; N]) -> [u32; N]
     answers
 }
 
-// Makes a little-endian set. Returns the index of its unset bit with the rank `rank`, and how many
-// bits below `index` are unset.
+// Returns the index of the unset bit with the rank `rank`, and how many bits below `index` are
+// unset.
+fn zeros<B: Bits>(set: &B, rank: u32, index: u32) -> ([Option<u32>; 1], [u32; 1])
+    requires { ShapeFits B.Shape set.now }
+{
+    (selected_zeros(set, [rank]), zero_ranks(set, [index]))
+}
+
+// Calls `zeros` on a little-endian set.
 fn zeros_of_left<T: BitsOwned>(left: T, rank: u32, index: u32) -> ([Option<u32>; 1], [u32; 1])
     requires { IsTrue T.indexable }
 {
-    let set = Set::new_le(left);
-    (selected_zeros(&set, [rank]), zero_ranks(&set, [index]))
+    zeros(&Set::new_le(left), rank, index)
 }
 
 #[test]

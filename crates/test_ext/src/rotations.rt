@@ -14,24 +14,22 @@ use std::process::Abort;
 fn moved_each_way<B: BitsOwned>(set: B, by: [u32; 4]) -> [B; 4]
     requires { IsTrue B.indexable }
 {
-    [
-        moved(0, set, by[0]),
-        moved(1, set, by[1]),
-        moved(2, set, by[2]),
-        moved(3, set, by[3]),
-    ]
+    let mut sets = [set; 4];
+    for way in 0..4usize {
+        sets[way] = moved(way as u32, set, by[way]);
+    }
+    sets
 }
 
 // Calls `moved_each_way` on the set in the order `E`.
 fn moved_each_way_in<B: BitsOwned, E: Endian>(set: B, by: [u32; 4]) -> [B; 4]
     requires { IsTrue B.indexable }
 {
-    [
-        moved_in::<B, E>(0, set, by[0]),
-        moved_in::<B, E>(1, set, by[1]),
-        moved_in::<B, E>(2, set, by[2]),
-        moved_in::<B, E>(3, set, by[3]),
-    ]
+    let mut sets = [set; 4];
+    for way in 0..4usize {
+        sets[way] = moved_in::<B, E>(way as u32, set, by[way]);
+    }
+    sets
 }
 
 #[test]
