@@ -37,6 +37,18 @@ pub fn alone(one: u16, other: u16) -> u16
     u16::from_iter(one.minus(&other).iter_ones())
 }
 
+/// Counts the bits in which any two sets differ. Each set is read in its own order.
+fn count_unlike<A: Bits, B: Bits>(one: &A, other: &B) -> usize
+    requires one_fits { ShapeFits A.Shape one.now }
+    requires other_fits { ShapeFits B.Shape other.now }
+    requires rounded { rounded_up (max (A.big one.now).capacity (B.big other.now).capacity) A.width
+        < 4294967295 }
+    ensures { result ≡ length (ascending (just_one_of
+        (set_in A.Shape A.Order.Endian one.now) (set_in B.Shape B.Order.Endian other.now))) }
+{
+    one.xor_unlike(other).iter_ones().count()
+}
+
 /// Counts the bits in which any two sets differ. Both sets are read in the order `E`.
 pub fn count_different<A: Bits, B: Bits, E: Endian>(one: &A, other: &B) -> usize
     requires one_fits { ShapeFits A.Shape one.now }
@@ -46,8 +58,7 @@ pub fn count_different<A: Bits, B: Bits, E: Endian>(one: &A, other: &B) -> usize
     ensures { result ≡ length (ascending (just_one_of
         (set_in A.Shape E.Endian one.now) (set_in B.Shape E.Endian other.now))) }
 {
-    let view = one.in_order::<E>();
-    view.xor_unlike(&other.in_order::<E>()).iter_ones().count()
+    count_unlike(&one.in_order::<E>(), &other.in_order::<E>())
 }
 
 /// Counts the bits that are set in a byte and not in a row of wider words. The row is read in
