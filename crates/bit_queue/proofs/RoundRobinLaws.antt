@@ -1,21 +1,21 @@
 -- What follows from the round-robin machine for every list of events.
-use Rattle.std.proofs.Common.{◌≡◌, ℕ, zero, suc, ◌+◌, ◌<◌, ◌≤◌, ◌⊎◌, Bool, true, false, not, cond, ◌&&◌, ◌||◌, ◌==◌, nat_lt, Option, Some, None, List, [], ◌∷◌, inl, inr, refl, sym, ap, ◌∙◌, arith}
+use Rattle.std.proofs.Common.{◌≡◌, ℕ, zero, suc, ◌+◌, ◌<◌, ◌≤◌, ◌⊎◌, Bool, true, false, not, cond, ◌&&◌, ◌||◌, ◌==◌, nat_lt, Option, Some, None, List, [], ◌∷◌, inl, inr, refl, sym, ap, ◌∙◌, subst, arith}
 use Rattle.std.specs.List.{count_by, fold, scan, list_any}
 use Rattle.std.specs.Prelude.{◌↔◌, MatchOption, slice_get}
-use Rattle.std.proofs.lemmas.Bool.{cases_eq, cases_Bool, cases_lt, ltb-true, or_right, and_parts, and_right, true≢false}
+use Rattle.std.proofs.lemmas.Bool.{cases_eq, cases_Bool, cases_lt, or_right, and_parts, and_right, true≢false}
 use Rattle.bittle.specs.PlainSet.{PlainSet, count_below, size}
 use Rattle.bittle.specs.Searches.{NoneIn}
 use Rattle.bittle.proofs.CallerSets.{size_at_most}
 use Rattle.bit_queue.specs.Queue.{is_ready, with_task, without_task, runs_or_idle}
-use Rattle.bit_queue.specs.QueueLaws.{IsWokenFirst, IsWokenBetween, IsLeftReady, is_next, RunsIn}
+use Rattle.bit_queue.specs.QueueLaws.{IsWokenFirst, IsWokenBetween, IsWokenAfterRemovals, IsLeftReady, is_next, IsTakenAt, IsTakenIn}
 use Rattle.bit_queue.specs.RoundRobin.{Round, round_at, next_in_turn, past_picked, answer_in_turn, round_after, answers_in_turn, final_round}
 use Rattle.bit_queue.specs.RoundRobinLaws.{comes_before, IsNextInTurn, turn_after, wakes, ever_ready}
-use Rattle.bit_queue.specs.declared.Answer.TheVariants.{Woken, NoTask, Runs, Idle}
+use Rattle.bit_queue.specs.declared.Answer.TheVariants.{Woken, NoTask, Removed, NotReady, Runs, Idle}
 use Rattle.bit_queue.specs.declared.Event.{Event}
-use Rattle.bit_queue.specs.declared.Event.TheVariants.{Wake, Next}
+use Rattle.bit_queue.specs.declared.Event.TheVariants.{Wake, Remove, Next}
 use Rattle.bittle.proofs.Replies.{run_keeps}
 use Rattle.bit_queue.proofs.Counting.{counts_less, counts_item}
-use Rattle.bit_queue.proofs.QueueLaws.{changes_nothing, woken_is_no_run, woken_is_not_idle, woken_is_no_task, run_is_no_no_task, run_is_picked, taken_out, others_stay, wakes_alone, wakes_keep, still_ready, woken_ready}
+use Rattle.bit_queue.proofs.QueueLaws.{changes_nothing, woken_is_no_run, woken_is_not_idle, woken_is_no_task, woken_is_not_removed, woken_is_not_refused, removed_is_no_run, removed_is_not_idle, removed_is_no_no_task, removed_if_ready, refused_if_not_ready, run_is_no_no_task, run_is_not_removed, run_is_not_refused, run_is_picked, others_stay, out_rests, out_others, still_rests, wakes_alone, wakes_keep, wakes_spare, still_ready, woken_ready, removes_alone, removed_not_ready, removals_keep, removals_spare, removals_leave, removals_add_none, ready_parts, is_member}
 use Rattle.bit_queue.proofs.Turns.{Comes, comes_is, comes_from, comes_not, comes_either, next_in_turn-is}
 use Rattle.bit_queue.proofs.Urgency.{ready-member}
 use Rattle.bit_queue.proofs.Histories as histories
@@ -25,6 +25,8 @@ pub runs_in_turn : (r : Round) (event : Event) (task : ℕ) → answer_in_turn r
     IsNextInTurn r task
 runs_in_turn r (Wake other) task = λ e.
     absurd (woken_is_no_run (nat_lt other r.ready.capacity) task e)
+runs_in_turn r (Remove other) task = λ e.
+    absurd (removed_is_no_run (is_ready r.ready other) task e)
 runs_in_turn r Next task = λ e.
     by (next_in_turn r) (next_in_turn-is r) (run_is_picked (next_in_turn r) task e)
   where
@@ -62,6 +64,10 @@ runs_is_next_in_turn r (Wake other) task = (
   λ e. absurd (woken_is_no_run (nat_lt other r.ready.capacity) task e),
   λ is. absurd (let same = is.0 in cc),
 )
+runs_is_next_in_turn r (Remove other) task = (
+  λ e. absurd (removed_is_no_run (is_ready r.ready other) task e),
+  λ is. absurd (let same = is.0 in cc),
+)
 runs_is_next_in_turn r Next task = (
   λ e. (refl, runs_in_turn r Next task e),
   λ is. ap runs_or_idle (next_in_turn-of r task is.1),
@@ -72,6 +78,10 @@ pub idle_is_none : (r : Round) (event : Event) → (answer_in_turn r event ≡ I
     ↔ ((event ≡ Next) × NoneIn r.ready 0 r.ready.capacity)
 idle_is_none r (Wake other) = (
   λ e. absurd (woken_is_not_idle (nat_lt other r.ready.capacity) e),
+  λ e. absurd (cc),
+)
+idle_is_none r (Remove other) = (
+  λ e. absurd (removed_is_not_idle (is_ready r.ready other) e),
   λ e. absurd (cc),
 )
 idle_is_none r Next = by (next_in_turn r) (next_in_turn-is r)
@@ -89,63 +99,112 @@ idle_is_none r Next = by (next_in_turn r) (next_in_turn-is r)
 pub no_task_is_past : (r : Round) (event : Event) → (answer_in_turn r event ≡ NoTask)
     ↔ ((task : ℕ) × (event ≡ Wake task) × (r.ready.capacity ≤ task))
 no_task_is_past r (Wake other) = woken_is_no_task r.ready.capacity other
+no_task_is_past r (Remove other) = (
+  λ e. absurd (removed_is_no_no_task (is_ready r.ready other) e),
+  λ w. absurd (let same = w.1 in cc),
+)
 no_task_is_past r Next = (
   λ e. absurd (run_is_no_no_task (next_in_turn r) e),
   λ w. absurd (let same = w.1 in cc),
 )
 
--- NoTask and Idle change neither the ready tasks nor the turn
+-- Removed is answered exactly if an event removes a task that is ready
+pub removed_is_ready : (r : Round) (event : Event) → (answer_in_turn r event ≡ Removed)
+    ↔ ((task : ℕ) × (event ≡ Remove task) × (is_ready r.ready task ≡ true))
+removed_is_ready r (Wake other) = (
+  λ e. absurd (woken_is_not_removed (nat_lt other r.ready.capacity) e),
+  λ w. absurd (let same = w.1 in cc),
+)
+removed_is_ready r (Remove other) = removed_if_ready r.ready other
+removed_is_ready r Next = (
+  λ e. absurd (run_is_not_removed (next_in_turn r) e),
+  λ w. absurd (let same = w.1 in cc),
+)
+
+-- NotReady is answered exactly if an event removes a number that is no ready task
+pub refused_is_not_ready : (r : Round) (event : Event) → (answer_in_turn r event ≡ NotReady)
+    ↔ ((task : ℕ) × (event ≡ Remove task) × (is_ready r.ready task ≡ false))
+refused_is_not_ready r (Wake other) = (
+  λ e. absurd (woken_is_not_refused (nat_lt other r.ready.capacity) e),
+  λ w. absurd (let same = w.1 in cc),
+)
+refused_is_not_ready r (Remove other) = refused_if_not_ready r.ready other
+refused_is_not_ready r Next = (
+  λ e. absurd (run_is_not_refused (next_in_turn r) e),
+  λ w. absurd (let same = w.1 in cc),
+)
+
+-- NoTask, NotReady and Idle change neither the ready tasks nor the turn
 pub changes_no_round : (r : Round) (event : Event) →
-    (answer_in_turn r event ≡ NoTask) ⊎ (answer_in_turn r event ≡ Idle) → round_after r event ≡ r
+    (answer_in_turn r event ≡ NoTask)
+    ⊎ ((answer_in_turn r event ≡ NotReady) ⊎ (answer_in_turn r event ≡ Idle)) →
+    round_after r event ≡ r
 changes_no_round r (Wake task) e = ap (λ s. round_at s r.turn) (changes_nothing r.ready (Wake task) e)
+changes_no_round r (Remove task) e =
+    ap (λ s. round_at s r.turn) (changes_nothing r.ready (Remove task) e)
 changes_no_round r Next e = by (next_in_turn r) e
   where
-    by : (o : Option ℕ) → (runs_or_idle o ≡ NoTask) ⊎ (runs_or_idle o ≡ Idle) → past_picked r o ≡ r
+    by : (o : Option ℕ) → (runs_or_idle o ≡ NoTask)
+        ⊎ ((runs_or_idle o ≡ NotReady) ⊎ (runs_or_idle o ≡ Idle)) → past_picked r o ≡ r
     by None e = refl
     by (Some p) (inl e) = absurd (cc)
-    by (Some p) (inr e) = absurd (cc)
+    by (Some p) (inr (inl e)) = absurd (cc)
+    by (Some p) (inr (inr e)) = absurd (cc)
 
 -- the facts about the machine that the lemmas of Histories.antt require
 runs_ready : (r : Round) (event : Event) (task : ℕ) → answer_in_turn r event ≡ Runs task →
-    r.ready.has task ≡ true
-runs_ready r event task e = (runs_in_turn r event task e).is_ready
+    is_ready r.ready task ≡ true
+runs_ready r event task e =
+    let next = runs_in_turn r event task e in
+    ready-member r.ready task next.within next.is_ready
 
-rests : (r : Round) (event : Event) (task : ℕ) → answer_in_turn r event ≡ Runs task →
-    (round_after r event).ready.has task ≡ false
-rests r (Wake other) task = λ e. absurd (woken_is_no_run (nat_lt other r.ready.capacity) task e)
-rests r Next task = λ e.
-    ap (λ o. (past_picked r o).ready.has task) (run_is_picked (next_in_turn r) task e)
-    ∙ taken_out r.ready task
+rests : (r : Round) (event : Event) (task : ℕ) →
+    (answer_in_turn r event ≡ Runs task) ⊎ (event ≡ Remove task) →
+    is_ready (round_after r event).ready task ≡ false
+rests r event task (inr e) =
+    ap (λ x. is_ready (round_after r x).ready task) e ∙ removed_not_ready r.ready task
+rests r (Wake other) task (inl e) =
+    absurd (woken_is_no_run (nat_lt other r.ready.capacity) task e)
+rests r (Remove other) task (inl e) =
+    absurd (removed_is_no_run (is_ready r.ready other) task e)
+rests r Next task (inl e) =
+    ap (λ o. is_ready (past_picked r o).ready task) (run_is_picked (next_in_turn r) task e)
+    ∙ out_rests r.ready task
 
-rests_on : (r : Round) (event : Event) (task : ℕ) → r.ready.has task ≡ false →
-    ((round_after r event).ready.has task ≡ false) ⊎ (event ≡ Wake task)
+rests_on : (r : Round) (event : Event) (task : ℕ) → is_ready r.ready task ≡ false →
+    (is_ready (round_after r event).ready task ≡ false) ⊎ (event ≡ Wake task)
 rests_on r (Wake other) task e = wakes_alone r.ready other task e
+rests_on r (Remove other) task e = inl (removes_alone r.ready other task e)
 rests_on r Next task e = inl (by (next_in_turn r))
   where
-    by : (o : Option ℕ) → (past_picked r o).ready.has task ≡ false
+    by : (o : Option ℕ) → is_ready (past_picked r o).ready task ≡ false
     by None = e
-    by (Some p) = and_right (not (task == p)) (r.ready.has task) e
+    by (Some p) = still_rests r.ready p task e
 
 keeps : (r : Round) (event : Event) → (round_after r event).ready.capacity ≡ r.ready.capacity
 keeps r (Wake other) = wakes_keep r.ready other
+keeps r (Remove other) = removals_keep r.ready other
 keeps r Next = by (next_in_turn r)
   where
     by : (o : Option ℕ) → (past_picked r o).ready.capacity ≡ r.ready.capacity
     by None = refl
     by (Some p) = refl
 
-stays : (r : Round) (event : Event) (task : ℕ) → r.ready.has task ≡ true →
-    (answer_in_turn r event ≡ Runs task → ⊥) → (round_after r event).ready.has task ≡ true
-stays r (Wake other) task is never = still_ready r.ready other task is
-stays r Next task is never = by (next_in_turn r) never
+stays : (r : Round) (event : Event) (task : ℕ) → is_ready r.ready task ≡ true →
+    (answer_in_turn r event ≡ Runs task → ⊥) → (event ≡ Remove task → ⊥) →
+    is_ready (round_after r event).ready task ≡ true
+stays r (Wake other) task is never spared = wakes_spare r.ready other task is
+stays r (Remove other) task is never spared =
+    removals_leave r.ready other task (λ same. spared (ap Remove (sym same))) is
+stays r Next task is never spared = by (next_in_turn r) never
   where
     by : (o : Option ℕ) → (runs_or_idle o ≡ Runs task → ⊥) →
-        (past_picked r o).ready.has task ≡ true
+        is_ready (past_picked r o).ready task ≡ true
     by None never = is
-    by (Some p) never = others_stay r.ready p task (λ same. never (ap Runs (sym same))) ∙ is
+    by (Some p) never = out_others r.ready p task (λ same. never (ap Runs (sym same))) is
 
 woken_in_turn : (r : Round) (task : ℕ) → task < r.ready.capacity →
-    (round_after r (Wake task)).ready.has task ≡ true
+    is_ready (round_after r (Wake task)).ready task ≡ true
 woken_in_turn r task h = woken_ready r.ready task h
 
 -- the turn after one event follows from the answer to it
@@ -154,6 +213,11 @@ turn_follows : (r : Round) (event : Event) →
 turn_follows r (Wake task) = by (nat_lt task r.ready.capacity)
   where
     by : (b : Bool) → r.turn ≡ turn_after r.turn (cond b Woken NoTask)
+    by true = refl
+    by false = refl
+turn_follows r (Remove task) = by (is_ready r.ready task)
+  where
+    by : (b : Bool) → r.turn ≡ turn_after r.turn (cond b Removed NotReady)
     by true = refl
     by false = refl
 turn_follows r Next = by (next_in_turn r)
@@ -174,14 +238,21 @@ turn_is_past r (event ∷ events) = turn_is_past (round_after r event) events
 pub woken_first : (r : Round) (events : List Event) (task : ℕ) → r.ready.has task ≡ false →
     IsWokenFirst events (answers_in_turn r events) task
 unfolding answers_in_turn
-woken_first = histories.woken_first answer_in_turn round_after (λ r k. r.ready.has k) runs_ready
-    rests rests_on
+woken_first r events task e = histories.woken_first answer_in_turn round_after
+    (λ r. is_ready r.ready) runs_ready rests rests_on r events task
+    (and_right (nat_lt task r.ready.capacity) (r.ready.has task) e)
 
 pub woken_between : (r : Round) (events : List Event) (task : ℕ) →
     IsWokenBetween events (answers_in_turn r events) task
 unfolding answers_in_turn
-woken_between = histories.woken_between answer_in_turn round_after (λ r k. r.ready.has k)
-    runs_ready rests rests_on
+woken_between r events task i j h a b = histories.woken_since answer_in_turn round_after
+    (λ r. is_ready r.ready) runs_ready rests rests_on r events task i j h (inl a) b
+
+pub woken_after_removals : (r : Round) (events : List Event) (task : ℕ) →
+    IsWokenAfterRemovals events (answers_in_turn r events) task
+unfolding answers_in_turn
+woken_after_removals r events task i j h a b = histories.woken_since answer_in_turn round_after
+    (λ r. is_ready r.ready) runs_ready rests rests_on r events task i j h (inr a) b
 
 -- a task is ready after a list of events exactly if the events and their answers leave it ready
 pub ready_is_left : (r : Round) (events : List Event) (task : ℕ) →
@@ -191,14 +262,18 @@ pub ready_is_left : (r : Round) (events : List Event) (task : ℕ) →
 unfolding answers_in_turn final_round
 ready_is_left r events task = (
   λ e.
-      let parts = and_parts (nat_lt task last.ready.capacity) (last.ready.has task) e in (
-        omega (arith, ltb-true task last.ready.capacity parts.0, same),
-        histories.was_left answer_in_turn round_after (λ r. r.ready.capacity)
-            (λ r k. r.ready.has k) rests rests_on keeps stays woken_in_turn r events task parts.1,
+      let inside : task < r.ready.capacity =
+      omega (arith, (ready_parts last.ready task e).0, same) in (
+        inside,
+        subst (λ b. IsLeftReady b events (scan round_after answer_in_turn r events) task)
+            (is_member r.ready task inside)
+            (histories.was_left answer_in_turn round_after (λ r. r.ready.capacity)
+            (λ r. is_ready r.ready) rests rests_on keeps stays woken_in_turn r events task e),
       ),
-  λ w. ready-member last.ready task (omega (arith, w.0, same))
-      (histories.is_left answer_in_turn round_after (λ r. r.ready.capacity) (λ r k. r.ready.has k)
-      rests rests_on keeps stays woken_in_turn r events task w.0 w.1),
+  λ w. histories.is_left answer_in_turn round_after (λ r. r.ready.capacity)
+      (λ r. is_ready r.ready) rests rests_on keeps stays woken_in_turn r events task w.0
+      (subst (λ b. IsLeftReady b events (scan round_after answer_in_turn r events) task)
+      (sym (is_member r.ready task w.0)) w.1),
 )
   where
     last : Round
@@ -275,11 +350,11 @@ comes_after_run p task other same apart = elim (cases_lt task p) [
   ]
 ]
 
--- a ready task that comes before another runs before it
+-- a ready task that comes before another runs before it, or is removed before it runs
 runs_before : (r : Round) (events : List Event) (task other j : ℕ) → task < r.ready.capacity →
     r.ready.has task ≡ true → Comes r.turn task other →
     slice_get (scan round_after answer_in_turn r events) j ≡ Some (Runs other) →
-    (k : ℕ) × (k < j) × (slice_get (scan round_after answer_in_turn r events) k ≡ Some (Runs task))
+    (k : ℕ) × (k < j) × IsTakenAt events (scan round_after answer_in_turn r events) task k
 runs_before r [] task other j h ready comes e = absurd (cc)
 runs_before r (Wake woken ∷ events) task other zero h ready comes e =
     absurd (woken_is_no_run (nat_lt woken r.ready.capacity) other (cc))
@@ -287,26 +362,35 @@ runs_before r (Wake woken ∷ events) task other (suc j) h ready comes e =
     let later = runs_before (round_after r (Wake woken)) events task other j
     (omega (arith, h, wakes_keep r.ready woken)) (still_ready r.ready woken task ready) comes e in
     (suc later.0, omega (arith, later.1), later.2)
+runs_before r (Remove out ∷ events) task other zero h ready comes e =
+    absurd (removed_is_no_run (is_ready r.ready out) other (cc))
+runs_before r (Remove out ∷ events) task other (suc j) h ready comes e = elim (cases_eq task out) [
+  | inl same ↦ (zero, omega arith, inr (ap (λ k. Some (Remove k)) (sym same)))
+  | inr apart ↦
+      let later = runs_before (round_after r (Remove out)) events task other j
+      (omega (arith, h, removals_keep r.ready out))
+      (removals_spare r.ready out task apart ready) comes e in
+      (suc later.0, omega (arith, later.1), later.2)
+]
 runs_before r (Next ∷ events) task other j h ready comes e =
     by (λ t. runs_before t events task other) (next_in_turn r) (next_in_turn-is r) j e
   where
     by : ((t : Round) (i : ℕ) → task < t.ready.capacity → t.ready.has task ≡ true →
         Comes t.turn task other →
         slice_get (scan round_after answer_in_turn t events) i ≡ Some (Runs other) →
-        (k : ℕ) × (k < i)
-        × (slice_get (scan round_after answer_in_turn t events) k ≡ Some (Runs task))) →
+        (k : ℕ) × (k < i) × IsTakenAt events (scan round_after answer_in_turn t events) task k) →
         (o : Option ℕ) → MatchOption o (NoneIn r.ready 0 r.ready.capacity) (IsNextInTurn r) →
         (i : ℕ) → slice_get (runs_or_idle o
         ∷ scan round_after answer_in_turn (past_picked r o) events) i ≡ Some (Runs other) →
-        (k : ℕ) × (k < i) × (slice_get (runs_or_idle o
-        ∷ scan round_after answer_in_turn (past_picked r o) events) k ≡ Some (Runs task))
+        (k : ℕ) × (k < i) × IsTakenAt (Next ∷ events) (runs_or_idle o
+        ∷ scan round_after answer_in_turn (past_picked r o) events) task k
     by later None none i e = absurd (true≢false (sym ready ∙ none task (omega arith) h))
     by later (Some p) next zero e =
         let same : p ≡ other = cc in
         absurd (true≢false (sym ready ∙ next.none_before task h
         (ap (comes_before r.turn task) same ∙ comes_is r.turn task other comes)))
     by later (Some p) next (suc i) e = elim (cases_eq p task) [
-      | inl same ↦ (zero, omega arith, ap (λ k. Some (Runs k)) same)
+      | inl same ↦ (zero, omega arith, inl (ap (λ k. Some (Runs k)) same))
       | inr apart ↦
           let first = picked_comes r p task next h ready apart in
           let run = later (round_at (without_task r.ready p) (p + 1)) i h
@@ -315,12 +399,12 @@ runs_before r (Next ∷ events) task other j h ready comes e =
           (suc run.0, omega (arith, run.1), run.2)
     ]
 
--- a ready task runs before any task runs again
+-- a ready task runs, or is removed, before any task runs again
 pub runs_before_twice : (r : Round) (events : List Event) (task other i j : ℕ) →
     task < r.ready.capacity → r.ready.has task ≡ true → i < j →
     slice_get (answers_in_turn r events) i ≡ Some (Runs other) →
     slice_get (answers_in_turn r events) j ≡ Some (Runs other) →
-    (k : ℕ) × (k < j) × (slice_get (answers_in_turn r events) k ≡ Some (Runs task))
+    (k : ℕ) × (k < j) × IsTakenAt events (answers_in_turn r events) task k
 unfolding answers_in_turn
 runs_before_twice r events task other i zero h ready l a b = absurd (omega arith)
 runs_before_twice r [] task other i (suc j) h ready l a b = absurd (cc)
@@ -330,23 +414,33 @@ runs_before_twice r (Wake woken ∷ events) task other (suc i) (suc j) h ready l
     let later = runs_before_twice (round_after r (Wake woken)) events task other i j
     (omega (arith, h, wakes_keep r.ready woken)) (still_ready r.ready woken task ready)
     (omega arith) a b in (suc later.0, omega (arith, later.1), later.2)
+runs_before_twice r (Remove out ∷ events) task other zero (suc j) h ready l a b =
+    absurd (removed_is_no_run (is_ready r.ready out) other (cc))
+runs_before_twice r (Remove out ∷ events) task other (suc i) (suc j) h ready l a b =
+    elim (cases_eq task out) [
+      | inl same ↦ (zero, omega arith, inr (ap (λ k. Some (Remove k)) (sym same)))
+      | inr apart ↦
+          let later = runs_before_twice (round_after r (Remove out)) events task other i j
+          (omega (arith, h, removals_keep r.ready out))
+          (removals_spare r.ready out task apart ready) (omega arith) a b in
+          (suc later.0, omega (arith, later.1), later.2)
+    ]
 runs_before_twice r (Next ∷ events) task other i (suc j) h ready l a b =
     by (λ t. runs_before_twice t events task other) (next_in_turn r) (next_in_turn-is r) i l a b
   where
     by : ((t : Round) (i j : ℕ) → task < t.ready.capacity → t.ready.has task ≡ true → i < j →
         slice_get (scan round_after answer_in_turn t events) i ≡ Some (Runs other) →
         slice_get (scan round_after answer_in_turn t events) j ≡ Some (Runs other) →
-        (k : ℕ) × (k < j)
-        × (slice_get (scan round_after answer_in_turn t events) k ≡ Some (Runs task))) →
+        (k : ℕ) × (k < j) × IsTakenAt events (scan round_after answer_in_turn t events) task k) →
         (o : Option ℕ) → MatchOption o (NoneIn r.ready 0 r.ready.capacity) (IsNextInTurn r) →
         (i : ℕ) → i < suc j → slice_get (runs_or_idle o
         ∷ scan round_after answer_in_turn (past_picked r o) events) i ≡ Some (Runs other) →
         slice_get (scan round_after answer_in_turn (past_picked r o) events) j ≡ Some (Runs other) →
-        (k : ℕ) × (k < suc j) × (slice_get (runs_or_idle o
-        ∷ scan round_after answer_in_turn (past_picked r o) events) k ≡ Some (Runs task))
+        (k : ℕ) × (k < suc j) × IsTakenAt (Next ∷ events) (runs_or_idle o
+        ∷ scan round_after answer_in_turn (past_picked r o) events) task k
     by later None none i l a b = absurd (true≢false (sym ready ∙ none task (omega arith) h))
     by later (Some p) next zero l a b = elim (cases_eq p task) [
-      | inl is ↦ (zero, omega arith, ap (λ k. Some (Runs k)) is)
+      | inl is ↦ (zero, omega arith, inl (ap (λ k. Some (Runs k)) is))
       | inr apart ↦
           let same : p ≡ other = cc in
           let run = runs_before (round_at (without_task r.ready p) (p + 1)) events task other j h
@@ -355,7 +449,7 @@ runs_before_twice r (Next ∷ events) task other i (suc j) h ready l a b =
           (suc run.0, omega (arith, run.1), run.2)
     ]
     by later (Some p) next (suc i) l a b = elim (cases_eq p task) [
-      | inl is ↦ (zero, omega arith, ap (λ k. Some (Runs k)) is)
+      | inl is ↦ (zero, omega arith, inl (ap (λ k. Some (Runs k)) is))
       | inr apart ↦
           let run = later (round_at (without_task r.ready p) (p + 1)) i j h
           (others_stay r.ready p task (λ e. apart (sym e)) ∙ ready) (omega arith) a b in
@@ -363,7 +457,7 @@ runs_before_twice r (Next ∷ events) task other i (suc j) h ready l a b =
     ]
 
 -- if s has all tasks that may be ready, at most the tasks of s that are ahead run before a ready
--- task
+-- task runs or is removed
 module _ (s : PlainSet) (task : ℕ) (h : task < s.capacity) where
   record IsWithin (r : Round) (events : List Event) : Type 0 where
     same : r.ready.capacity ≡ s.capacity
@@ -373,7 +467,7 @@ module _ (s : PlainSet) (task : ℕ) (h : task < s.capacity) where
     steps : ahead s r.turn task + 1 ≤ count_by is_next events
 
   in_turn : (r : Round) (events : List Event) → IsWithin r events →
-      RunsIn (answers_in_turn r events) task
+      IsTakenIn events (answers_in_turn r events) task
   unfolding answers_in_turn
   in_turn r [] w = absurd (omega (arith, w.steps))
   in_turn r (Wake other ∷ events) w = by (λ t. in_turn t events) (nat_lt other r.ready.capacity)
@@ -390,8 +484,9 @@ module _ (s : PlainSet) (task : ℕ) (h : task < s.capacity) where
         | inr not ↦ w.members k (sym (ap (λ b. b || r.ready.has k) not) ∙ e)
       ]
 
-      by : ((t : Round) → IsWithin t events → RunsIn (scan round_after answer_in_turn t events) task) →
-          (b : Bool) → RunsIn (cond b Woken NoTask ∷ scan round_after answer_in_turn
+      by : ((t : Round) → IsWithin t events →
+          IsTakenIn events (scan round_after answer_in_turn t events) task) →
+          (b : Bool) → IsTakenIn (Wake other ∷ events) (cond b Woken NoTask ∷ scan round_after answer_in_turn
           (round_at (cond b (with_task r.ready other) r.ready) r.turn) events) task
       by later true =
           let run = later (round_at (with_task r.ready other) r.turn) (record {
@@ -409,6 +504,19 @@ module _ (s : PlainSet) (task : ℕ) (h : task < s.capacity) where
             woken = later_woken;
             steps = omega (arith, w.steps, steps);
           }) in (suc run.0, run.1)
+  in_turn r (Remove other ∷ events) w = elim (cases_eq task other) [
+    | inl same ↦ (zero, inr (ap (λ k. Some (Remove k)) (sym same)))
+    | inr apart ↦
+        let steps : count_by is_next (Remove other ∷ events) ≡ 0 + count_by is_next events =
+        counts_item is_next (Remove other) events in
+        let run = in_turn (round_after r (Remove other)) events (record {
+          same = removals_keep r.ready other ∙ w.same;
+          ready = removals_spare r.ready other task apart w.ready;
+          members = λ k e. w.members k (removals_add_none r.ready other k e);
+          woken = w.woken;
+          steps = omega (arith, w.steps, steps);
+        }) in (suc run.0, run.1)
+  ]
   in_turn r (Next ∷ events) w = by (λ t. in_turn t events) (next_in_turn r) (next_in_turn-is r)
     where
       steps : count_by is_next (Next ∷ events) ≡ 1 + count_by is_next events
@@ -417,14 +525,16 @@ module _ (s : PlainSet) (task : ℕ) (h : task < s.capacity) where
       inside : task < r.ready.capacity
       inside = omega (arith, h, w.same)
 
-      by : ((t : Round) → IsWithin t events → RunsIn (scan round_after answer_in_turn t events) task) →
+      by : ((t : Round) → IsWithin t events →
+          IsTakenIn events (scan round_after answer_in_turn t events) task) →
           (o : Option ℕ) →
           MatchOption o (NoneIn r.ready 0 r.ready.capacity) (IsNextInTurn r) →
-          RunsIn (runs_or_idle o ∷ scan round_after answer_in_turn (past_picked r o) events) task
+          IsTakenIn (Next ∷ events) (runs_or_idle o
+          ∷ scan round_after answer_in_turn (past_picked r o) events) task
       by later None none = absurd (true≢false (sym w.ready ∙ none task (omega arith) inside))
       by later (Some p) next =
           elim (cases_eq p task) [
-            | inl same ↦ (zero, ap (λ k. Some (Runs k)) same)
+            | inl same ↦ (zero, inl (ap (λ k. Some (Runs k)) same))
             | inr apart ↦
                 let comes = picked_comes r p task next inside w.ready apart in
                 let less = ahead_less s r.turn p task (omega (arith, next.within, w.same))
@@ -438,10 +548,11 @@ module _ (s : PlainSet) (task : ℕ) (h : task < s.capacity) where
                 }) in (suc run.0, run.1)
           ]
 
--- a ready task runs within as many steps as there are tasks that are ready at first or woken
+-- a ready task runs, or is removed, within as many steps as there are tasks that are ready at first
+-- or woken
 pub in_their_turn : (r : Round) (events : List Event) (task : ℕ) → task < r.ready.capacity →
     r.ready.has task ≡ true → size (ever_ready r.ready events) ≤ count_by is_next events →
-    RunsIn (answers_in_turn r events) task
+    IsTakenIn events (answers_in_turn r events) task
 in_their_turn r events task h ready enough =
     let is = ap (λ b. b || list_any (wakes task) events) ready in
     let most = ahead_at_most (ever_ready r.ready events) r.turn task h is in
@@ -453,9 +564,9 @@ in_their_turn r events task h ready enough =
       steps = omega (arith, most, enough);
     })
 
--- a ready task runs within as many steps as there are tasks
+-- a ready task runs, or is removed, within as many steps as there are tasks
 pub within_as_many_steps : (r : Round) (events : List Event) (task : ℕ) → task < r.ready.capacity →
     r.ready.has task ≡ true → r.ready.capacity ≤ count_by is_next events →
-    RunsIn (answers_in_turn r events) task
+    IsTakenIn events (answers_in_turn r events) task
 within_as_many_steps r events task h ready enough = in_their_turn r events task h ready
     (omega (arith, enough, size_at_most (ever_ready r.ready events)))

@@ -1,13 +1,13 @@
 -- The most urgent ready task, and how a search finds it.
 use Rattle.std.proofs.Common.{◌≡◌, ℕ, ◌+◌, ◌<◌, ◌≤◌, ◌↔◌, Bool, true, false, not, cond, ◌&&◌, ◌||◌, ◌==◌, nat_lt, Option, Some, None, List, [], ◌∷◌, inl, inr, refl, sym, ap, ◌∙◌, subst, arith}
-use Rattle.std.proofs.lemmas.Bool.{cases_lt, eq-eqb, eqb-true, ne_eqb, lt-ltb, and_right, true≢false}
+use Rattle.std.proofs.lemmas.Bool.{cases_lt, eq-eqb, eqb-true, ne_eqb, lt-ltb, ltb-true, and_parts, and_right, true≢false}
 use Rattle.std.specs.Prelude.{MatchOption, IsTrue, slice_get}
 use Rattle.bittle.specs.PlainSet.{PlainSet, ascending, contains, with_index, without_index, size}
 use Rattle.bittle.specs.Searches.{NoneIn, IsFirstIn}
 use Rattle.bittle.proofs.CallerLists.{ascending_none, ascending_first}
 use Rattle.bittle.proofs.CallerChanges.{size_inserted, size_without}
 use Rattle.bittle.proofs.CallerSets.{contains_within, with_index_within, without_index_within, size_none, size_zero}
-use Rattle.bit_queue.specs.Queue.{is_ready, most_urgent, with_task, without_task, with_woken}
+use Rattle.bit_queue.specs.Queue.{is_ready, most_urgent, with_task, without_task, with_woken, with_removed}
 use Rattle.bit_queue.specs.QueueLaws.{IsMostUrgent}
 
 -- `most_urgent` is the most urgent ready task, or None if no task is ready
@@ -155,3 +155,26 @@ module _ (s t : PlainSet) (task : ℕ) (h : task < s.capacity) (after : t ≡ wi
   takes_no_other other apart = ap (λ u. is_ready u other) is_taken_out
       ∙ ap (λ b. nat_lt other s.capacity && (not b && s.has other))
       (ne_eqb other task (λ e. apart (ap Some (sym e))))
+
+-- the set without a task that was ready and is removed
+module _ (s t : PlainSet) (task : ℕ) (ready : true ≡ is_ready s task)
+    (after : t ≡ without_index s task) where
+  was_within : task < s.capacity
+  was_within = ltb-true task s.capacity (and_parts (nat_lt task s.capacity) (s.has task) (sym ready)).0
+
+  was_member : s.has task ≡ true
+  was_member = (and_parts (nat_lt task s.capacity) (s.has task) (sym ready)).1
+
+  pub is_removed : t ≡ with_removed s task
+  is_removed = is_taken_out s t task was_within after
+      ∙ ap (λ b. cond b (without_task s task) s) ready
+
+  pub removed_rests : is_ready t task ≡ false
+  removed_rests = now_rests s t task was_within after
+
+  pub removed_is_counted : size s ≡ size t + 1
+  removed_is_counted = one_fewer s t task was_within after was_member
+
+  pub removes_no_other : (other : ℕ) → (other ≡ task → ⊥) → is_ready t other ≡ is_ready s other
+  removes_no_other other apart = takes_no_other s t task was_within after other
+      (λ e. apart (let same : task ≡ other = cc in sym same))

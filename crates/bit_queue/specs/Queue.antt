@@ -5,9 +5,9 @@ use Rattle.std.specs.Prelude.{ℕ, Bool, not, ◌&&◌, ◌||◌, ◌==◌, nat_
 use Rattle.std.specs.Prelude.{Option, Some, None, List, slice_get}
 use Rattle.bittle.specs.PlainSet.{PlainSet, ascending}
 use Rattle.bit_queue.specs.declared.Event.{Event}
-use Rattle.bit_queue.specs.declared.Event.TheVariants.{Wake, Next}
+use Rattle.bit_queue.specs.declared.Event.TheVariants.{Wake, Remove, Next}
 use Rattle.bit_queue.specs.declared.Answer.{Answer}
-use Rattle.bit_queue.specs.declared.Answer.TheVariants.{Woken, NoTask, Runs, Idle}
+use Rattle.bit_queue.specs.declared.Answer.TheVariants.{Woken, NoTask, Removed, NotReady, Runs, Idle}
 
 -- whether the number is a task, and ready
 abbrev pub is_ready : PlainSet → ℕ → Bool
@@ -33,6 +33,14 @@ woken_or_none s task = if nat_lt task s.capacity then Woken else NoTask
 abbrev pub with_woken : PlainSet → ℕ → PlainSet
 with_woken s task = if nat_lt task s.capacity then with_task s task else s
 
+-- the answer to a request to remove a task; a task that is not ready is refused
+abbrev pub removed_or_not : PlainSet → ℕ → Answer
+removed_or_not s task = if is_ready s task then Removed else NotReady
+
+-- the ready tasks after a request to remove a task; a task that is not ready changes nothing
+abbrev pub with_removed : PlainSet → ℕ → PlainSet
+with_removed s task = if is_ready s task then without_task s task else s
+
 -- the answer of a step: the task that was picked runs, or Idle if none was picked
 abbrev pub runs_or_idle : Option ℕ → Answer
 runs_or_idle None = Idle
@@ -46,11 +54,13 @@ without_picked s (Some task) = without_task s task
 -- the answer to an event
 abbrev pub answer_to : PlainSet → Event → Answer
 answer_to s (Wake task) = woken_or_none s task
+answer_to s (Remove task) = removed_or_not s task
 answer_to s Next = runs_or_idle (most_urgent s)
 
 -- the ready tasks after an event
 abbrev pub state_after : PlainSet → Event → PlainSet
 state_after s (Wake task) = with_woken s task
+state_after s (Remove task) = with_removed s task
 state_after s Next = without_picked s (most_urgent s)
 
 -- the answers to a list of events

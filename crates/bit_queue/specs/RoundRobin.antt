@@ -4,9 +4,9 @@ use Rattle.std.specs.List.{fold, scan}
 use Rattle.std.specs.Prelude.{ℕ, ◌+◌, ◌&&◌, nat_le}
 use Rattle.std.specs.Prelude.{Option, Some, None, List}
 use Rattle.bittle.specs.PlainSet.{PlainSet}
-use Rattle.bit_queue.specs.Queue.{most_urgent, without_task, woken_or_none, with_woken, runs_or_idle}
+use Rattle.bit_queue.specs.Queue.{most_urgent, without_task, woken_or_none, with_woken, removed_or_not, with_removed, runs_or_idle}
 use Rattle.bit_queue.specs.declared.Event.{Event}
-use Rattle.bit_queue.specs.declared.Event.TheVariants.{Wake, Next}
+use Rattle.bit_queue.specs.declared.Event.TheVariants.{Wake, Remove, Next}
 use Rattle.bit_queue.specs.declared.Answer.{Answer}
 
 -- the tasks that are ready, and the number that the turn has come to
@@ -42,11 +42,13 @@ past_picked r (Some task) = round_at (without_task r.ready task) (task + 1)
 -- the answer to an event
 abbrev pub answer_in_turn : Round → Event → Answer
 answer_in_turn r (Wake task) = woken_or_none r.ready task
+answer_in_turn r (Remove task) = removed_or_not r.ready task
 answer_in_turn r Next = runs_or_idle (next_in_turn r)
 
 -- the state of the queue (ready tasks and turn) after an event
 abbrev pub round_after : Round → Event → Round
 round_after r (Wake task) = round_at (with_woken r.ready task) r.turn
+round_after r (Remove task) = round_at (with_removed r.ready task) r.turn
 round_after r Next = past_picked r (next_in_turn r)
 
 -- the answers to a list of events

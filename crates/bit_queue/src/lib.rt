@@ -14,6 +14,7 @@
 //! queue.len();                      // 2
 //! queue.peek();                     // Some(7)
 //! queue.next();                     // Some(7)
+//! queue.remove(7);                  // false: task 7 is not ready
 //! queue.next();                     // Some(40)
 //! queue.next();                     // None
 //!
@@ -21,6 +22,8 @@
 //! turns.next();                     // Some(3)
 //! turns.wake(3);
 //! turns.next();                     // Some(9)
+//! turns.remove(3);                  // true
+//! turns.next();                     // None
 //! ```
 #![tactic(auto)]
 
@@ -41,6 +44,9 @@ use std::fmt;
 pub enum Event {
     /// A task becomes ready: answered by [`Answer::Woken`] or [`Answer::NoTask`].
     Wake(u32),
+    /// A task is taken out of the ready tasks without running: answered by [`Answer::Removed`] or
+    /// [`Answer::NotReady`].
+    Remove(u32),
     /// A step, in which the next task runs: answered by [`Answer::Runs`] or [`Answer::Idle`].
     Next,
 }
@@ -52,6 +58,10 @@ pub enum Answer {
     Woken,
     /// The number that was to be woken is no task.
     NoTask,
+    /// The task was ready, and no longer is.
+    Removed,
+    /// The number that was to be removed is no ready task.
+    NotReady,
     /// The task runs, and is no longer ready.
     Runs(u32),
     /// No task is ready.

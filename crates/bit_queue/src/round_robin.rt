@@ -121,6 +121,34 @@ impl<B: BitsOwned> RoundRobin<B> {
         Ok(())
     }
 
+    /// Takes a task out of the ready tasks without running it, and returns whether it was ready. If
+    /// it was not ready, or if there is no such task, the call returns `false` and changes nothing.
+    /// The turn stays as it is.
+    pub fn remove(&mut self, task: u32) -> bool
+        ensures was_ready { result
+            ≡ is_ready (set_in B.Shape B.Order.Endian self.old.ready) task }
+        ensures below { IsTrue result → task < B.type_capacity }
+        ensures rests { is_ready (set_in B.Shape B.Order.Endian self.new.ready) task ≡ false }
+        ensures count { size (set_in B.Shape B.Order.Endian self.old.ready)
+            ≡ size (set_in B.Shape B.Order.Endian self.new.ready) + cond result 1 0 }
+        ensures at_least { size (set_in B.Shape B.Order.Endian self.old.ready)
+            ≤ size (set_in B.Shape B.Order.Endian self.new.ready) + 1 }
+        ensures at_most { size (set_in B.Shape B.Order.Endian self.new.ready)
+            ≤ size (set_in B.Shape B.Order.Endian self.old.ready) }
+        ensures others { (other : ℕ) → other ≢ task
+            → is_ready (set_in B.Shape B.Order.Endian self.new.ready) other
+            ≡ is_ready (set_in B.Shape B.Order.Endian self.old.ready) other }
+        ensures round { round_at (set_in B.Shape B.Order.Endian self.new.ready) self.new.turn
+            ≡ round_after (round_at (set_in B.Shape B.Order.Endian self.old.ready) self.old.turn)
+            (Event.Remove task) }
+    {
+        if !self.is_ready(task) {
+            return false;
+        }
+        self.ready.clear_bit(task);
+        true
+    }
+
     /// Returns the ready task that is next in turn, which [`next`](RoundRobin::next) would take. If
     /// no task is ready, it returns `None`; with capacity 0 this is always so. The call reads the
     /// words from the turn up to the one with the bit of the task. If no task is ready there, it
@@ -186,6 +214,13 @@ impl<B: BitsOwned> RoundRobin<B> {
                 Ok(()) => Answer::Woken,
                 Err(NoTask) => Answer::NoTask,
             },
+            Event::Remove(task) => {
+                if self.remove(task) {
+                    Answer::Removed
+                } else {
+                    Answer::NotReady
+                }
+            }
             Event::Next => match self.next() {
                 Some(task) => Answer::Runs(task),
                 None => Answer::Idle,

@@ -7,9 +7,12 @@ ghost use Rattle.bit_histories.specs.Histories.{AnswersAreOfTheirStates, CallsAn
 ghost use Rattle.bit_queue.specs.RoundRobin.{answer_in_turn, round_after};
 ghost use Rattle.bit_queue.specs.RoundRobin.{answers_in_turn, final_round};
 ghost use Rattle.bit_queue.specs.RoundRobinLaws.{NextInTurnRuns, RoundIsIdleExactlyIfNoneIsReady};
-ghost use Rattle.bit_queue.specs.RoundRobinLaws.{NoTaskAndIdleChangeNoRound, TurnIsPastTheLastRun};
+ghost use Rattle.bit_queue.specs.RoundRobinLaws.{RefusedAndIdleChangeNoRound, TurnIsPastTheLastRun};
 ghost use Rattle.bit_queue.specs.RoundRobinLaws.{RoundHasNoTaskExactlyIfThereIsNone};
-ghost use Rattle.bit_queue.specs.RoundRobinLaws.{ReadyAreThoseNotRunInTurn};
+ghost use Rattle.bit_queue.specs.RoundRobinLaws.{RoundRemovesExactlyIfReady};
+ghost use Rattle.bit_queue.specs.RoundRobinLaws.{RoundIsNotReadyExactlyIfNotReady};
+ghost use Rattle.bit_queue.specs.RoundRobinLaws.{ReadyAreThoseNotTakenInTurn};
+ghost use Rattle.bit_queue.specs.RoundRobinLaws.{RemovedTasksAreWokenFirstInTurn};
 ghost use Rattle.bit_queue.specs.RoundRobinLaws.{NoTaskRunsTwiceBeforeAReadyTask};
 ghost use Rattle.bit_queue.specs.RoundRobinLaws.{RestingTasksAreWokenFirstInTurn};
 ghost use Rattle.bit_queue.specs.RoundRobinLaws.{TasksAreWokenBetweenTurns, TasksRunInTheirTurn};
@@ -32,10 +35,21 @@ pub fn no_task_exactly_if_there_is_none()
     ensures { RoundHasNoTaskExactlyIfThereIsNone }
 {}
 
-/// States that an event which is answered by `NoTask` or `Idle` changes neither the ready tasks nor
-/// the turn.
-pub fn no_task_and_idle_change_nothing()
-    ensures { NoTaskAndIdleChangeNoRound }
+/// States that an event is answered `Removed` exactly if it removes a task that is ready.
+pub fn removed_exactly_if_ready()
+    ensures { RoundRemovesExactlyIfReady }
+{}
+
+/// States that an event is answered `NotReady` exactly if it removes a number that is no ready
+/// task.
+pub fn not_ready_exactly_if_not_ready()
+    ensures { RoundIsNotReadyExactlyIfNotReady }
+{}
+
+/// States that an event which is refused (answered by `NoTask` or `NotReady`) or answered by `Idle`
+/// changes neither the ready tasks nor the turn.
+pub fn refused_and_idle_change_nothing()
+    ensures { RefusedAndIdleChangeNoRound }
 {}
 
 /// States that in every list there is an answer `i` exactly if there is an event `i`. It is the
@@ -61,30 +75,37 @@ pub fn tasks_are_woken_between()
     ensures { TasksAreWokenBetweenTurns }
 {}
 
-/// States that a task is ready after a list of events exactly if it was ready before and did not
-/// run, or it was woken and did not run since.
-pub fn ready_are_those_not_run()
-    ensures { ReadyAreThoseNotRunInTurn }
+/// States that a task which was removed runs only after it was woken again. This holds after each
+/// event that removes the task, also if the task was not ready then.
+pub fn removed_tasks_are_woken_first()
+    ensures { RemovedTasksAreWokenFirstInTurn }
+{}
+
+/// States that a task is ready after a list of events exactly if it was ready before, or was woken,
+/// and has neither run nor been removed since.
+pub fn ready_are_those_not_taken()
+    ensures { ReadyAreThoseNotTakenInTurn }
 {}
 
 /// States that no task runs twice while a ready task waits: a ready task runs before another task
-/// runs for the second time.
+/// runs for the second time, unless an event removes it before that.
 pub fn no_task_runs_twice_before_a_ready_task()
     ensures { NoTaskRunsTwiceBeforeAReadyTask }
 {}
 
 /// States that a ready task runs within as many steps as there are tasks that are ready at first or
-/// woken meanwhile, however often each is woken.
+/// woken meanwhile, however often each is woken, unless an event removes the ready task.
 pub fn tasks_run_in_their_turn()
     ensures { TasksRunInTheirTurn }
 {}
 
-/// States that a ready task runs within as many steps as there are tasks, whatever is woken.
+/// States that a ready task runs within as many steps as there are tasks, whatever is woken, unless
+/// an event removes it.
 pub fn tasks_run_within_as_many_steps()
     ensures { TasksRunWithinAsManySteps }
 {}
 
-/// States that calls of `wake` and `next` in any sequence are a history exactly if they answer as
+/// States that calls of `wake`, `remove` and `next` in any sequence are a history exactly if they answer as
 /// the machine does on the list of their events, and leave its last state. The clauses of each call
 /// say what it answers and which round it leaves, so such calls are a history. So each law of lists
 /// of events holds for them too.

@@ -1,0 +1,25 @@
+use Rattle.std.proofs.Common.{arith}
+use Rattle.bit_queue.proofs.Urgency.{is_removed, removed_rests, removed_is_counted, removes_no_other}
+use Rattle.bit_queue.proofs.priority_queue.PriorityQueue.remove.Goals as goal
+
+pub returns-clause-rests : goal.returns-clause-rests
+returns-clause-rests g c =
+    removed_rests _ _ c.args.task c.if-not-is_ready.ensures.value c.clear_bit.ensures.set
+
+pub returns-clause-count : goal.returns-clause-count
+returns-clause-count g c =
+    removed_is_counted _ _ c.args.task c.if-not-is_ready.ensures.value c.clear_bit.ensures.set
+
+pub returns-clause-at_least : goal.returns-clause-at_least
+returns-clause-at_least g c = omega (arith, returns-clause-count g c)
+
+pub returns-clause-at_most : goal.returns-clause-at_most
+returns-clause-at_most g c = omega (arith, returns-clause-count g c)
+
+pub returns-clause-others : goal.returns-clause-others
+returns-clause-others g c =
+    removes_no_other _ _ c.args.task c.if-not-is_ready.ensures.value c.clear_bit.ensures.set
+
+pub returns-clause-ready : goal.returns-clause-ready
+returns-clause-ready g c =
+    is_removed _ _ c.args.task c.if-not-is_ready.ensures.value c.clear_bit.ensures.set
