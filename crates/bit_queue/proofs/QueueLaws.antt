@@ -522,7 +522,8 @@ in_time s (Next ∷ events) task h r e =
               (omega (arith, e, more, steps, fewer)) in (suc run.0, run.1)
           | inr g ↦ elim (cases_lt task p) [
             | inl l ↦ absurd (true≢false (sym r ∙ urgent.none_above task l))
-            | inr m ↦ let same : p ≡ task = omega arith in (zero, inl (ap (λ k. Some (Runs k)) same))
+            | inr m ↦
+                let same : p ≡ task = omega arith in (zero, inl (ap (λ k. Some (Runs k)) same))
           ]
         ]
       where

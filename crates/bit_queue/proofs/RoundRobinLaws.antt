@@ -139,7 +139,8 @@ pub changes_no_round : (r : Round) (event : Event) →
     (answer_in_turn r event ≡ NoTask)
     ⊎ ((answer_in_turn r event ≡ NotReady) ⊎ (answer_in_turn r event ≡ Idle)) →
     round_after r event ≡ r
-changes_no_round r (Wake task) e = ap (λ s. round_at s r.turn) (changes_nothing r.ready (Wake task) e)
+changes_no_round r (Wake task) e =
+    ap (λ s. round_at s r.turn) (changes_nothing r.ready (Wake task) e)
 changes_no_round r (Remove task) e =
     ap (λ s. round_at s r.turn) (changes_nothing r.ready (Remove task) e)
 changes_no_round r Next e = by (next_in_turn r) e
@@ -486,7 +487,8 @@ module _ (s : PlainSet) (task : ℕ) (h : task < s.capacity) where
 
       by : ((t : Round) → IsWithin t events →
           IsTakenIn events (scan round_after answer_in_turn t events) task) →
-          (b : Bool) → IsTakenIn (Wake other ∷ events) (cond b Woken NoTask ∷ scan round_after answer_in_turn
+          (b : Bool) → IsTakenIn (Wake other ∷ events) (cond b Woken NoTask
+          ∷ scan round_after answer_in_turn
           (round_at (cond b (with_task r.ready other) r.ready) r.turn) events) task
       by later true =
           let run = later (round_at (with_task r.ready other) r.turn) (record {

@@ -160,7 +160,8 @@ module _ (s t : PlainSet) (task : ℕ) (h : task < s.capacity) (after : t ≡ wi
 module _ (s t : PlainSet) (task : ℕ) (ready : true ≡ is_ready s task)
     (after : t ≡ without_index s task) where
   was_within : task < s.capacity
-  was_within = ltb-true task s.capacity (and_parts (nat_lt task s.capacity) (s.has task) (sym ready)).0
+  was_within =
+      ltb-true task s.capacity (and_parts (nat_lt task s.capacity) (s.has task) (sym ready)).0
 
   was_member : s.has task ≡ true
   was_member = (and_parts (nat_lt task s.capacity) (s.has task) (sym ready)).1

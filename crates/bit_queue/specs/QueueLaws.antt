@@ -141,8 +141,8 @@ wakes_more_urgent task Next = false
 abbrev pub IsTakenIn : List Event → List Answer → ℕ → Type 0
 IsTakenIn events answers task = (k : ℕ) × IsTakenAt events answers task k
 
--- a ready task that no event removes runs within m + w + 1 steps: m is how many of the other ready tasks are more urgent
--- than this task, and w is how often tasks more urgent than it are woken
+-- a ready task that no event removes runs within m + w + 1 steps: m is how many of the other ready
+-- tasks are more urgent than this task, and w is how often tasks more urgent than it are woken
 abbrev pub TasksRunInTime : Type 0
 TasksRunInTime =
     (s : PlainSet) (events : List Event) (task : ℕ)

@@ -2,7 +2,8 @@
 //!
 //! A task is a number below the capacity of the set. In a [`PriorityQueue`] a lesser number is more
 //! urgent, and the most urgent ready task runs. In a [`RoundRobin`] the ready tasks take turns, and
-//! each ready task runs within as many steps as there are tasks, whatever is woken meanwhile.
+//! each ready task runs within as many steps as there are tasks, whatever is woken meanwhile,
+//! unless it is removed.
 //!
 //! ```rust
 //! use bit_queue::{PriorityQueue, RoundRobin};

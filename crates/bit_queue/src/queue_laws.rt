@@ -75,16 +75,17 @@ pub fn ready_are_those_not_taken()
     ensures { ReadyAreThoseNotTaken }
 {}
 
-/// States that a ready task runs within `m + w + 1` steps, unless an event removes it. Here `m` is how many of the other ready
-/// tasks are more urgent than this task, and `w` is how often tasks more urgent than it are woken.
+/// States that a ready task runs within `m + w + 1` steps, unless an event removes it. Here `m` is
+/// how many of the other ready tasks are more urgent than this task, and `w` is how often tasks
+/// more urgent than it are woken.
 pub fn tasks_run_in_time()
     ensures { TasksRunInTime }
 {}
 
-/// States that calls of `wake`, `remove` and `next` in any sequence are a history exactly if they answer as
-/// the machine does on the list of their events, and leave its last state. The clauses of each call
-/// say what it answers and which ready tasks it leaves, so such calls are a history. So each law of
-/// lists of events holds for them too.
+/// States that calls of `wake`, `remove` and `next` in any sequence are a history exactly if they
+/// answer as the machine does on the list of their events, and leave its last state. The clauses of
+/// each call say what it answers and which ready tasks it leaves, so such calls are a history. So
+/// each law of lists of events holds for them too.
 pub fn calls_answer_as_lists()
     ensures { CallsAnswerAsLists answer_to state_after event_answers final_state }
 {}
