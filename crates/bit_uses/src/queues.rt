@@ -123,6 +123,45 @@ pub fn wake_and_count<B: BitsOwned>(queue: &mut PriorityQueue<B>, task: u32) -> 
     }
 }
 
+/// Wakes `task` and removes it. Returns whether the removal succeeds, and leaves the task not ready.
+/// If the queue has no such task, returns whether the removal fails. The result is always `true`.
+pub fn wake_and_remove<B: BitsOwned>(queue: &mut PriorityQueue<B>, task: u32) -> bool
+    ensures { result ≡ true }
+{
+    match queue.wake(task) {
+        Ok(()) => queue.remove(task) && !queue.is_ready(task),
+        Err(NoTask) => !queue.remove(task),
+    }
+}
+
+/// Removes `task`, and returns whether one task fewer is ready then, or as many as before if `task`
+/// was not ready. The result is always `true`.
+pub fn remove_and_count<B: BitsOwned>(queue: &mut PriorityQueue<B>, task: u32) -> bool
+    ensures { result ≡ true }
+{
+    let before = queue.len();
+    let was_ready = queue.is_ready(task);
+    if queue.remove(task) {
+        was_ready && queue.len() == before - 1
+    } else {
+        !was_ready && queue.len() == before
+    }
+}
+
+/// Removes `task`, and returns whether `other` is ready exactly if it was before. The result is
+/// always `true`, also if both are the same task.
+pub fn remove_and_ask_another<B: BitsOwned>(
+    turns: &mut RoundRobin<B>,
+    task: u32,
+    other: u32,
+) -> bool
+    ensures { result ≡ true }
+{
+    let before = turns.is_ready(other);
+    let _removed = turns.remove(task);
+    other == task || turns.is_ready(other) == before
+}
+
 /// Lets a task run in turn, and returns whether one task fewer is ready then, or none if no task
 /// ran. The result is always `true`.
 pub fn run_and_count<B: BitsOwned>(turns: &mut RoundRobin<B>) -> bool
@@ -213,6 +252,23 @@ pub fn wake_and_run_in_turn<B: BitsOwned>(
     let woken = turns.wake(task).is_ok();
     let run = turns.next();
     (woken, run)
+}
+
+/// Removes a task, and lets the task that is next in turn run. Returns whether the first task was
+/// ready, and which task ran. The clause says that the two calls are a history of calls.
+pub fn remove_and_run_in_turn<B: BitsOwned>(
+    turns: &mut RoundRobin<B>,
+    task: u32,
+) -> (bool, Option<u32>)
+    ensures { IsHistory answer_in_turn round_after
+        (round_at (set_in B.Shape B.Order.Endian turns.old.ready) turns.old.turn)
+        ((Event.Remove task, if result.0 then Answer.Removed else Answer.NotReady)
+        ∷ (Event.Next, runs_or_idle result.1)
+        ∷ []) (round_at (set_in B.Shape B.Order.Endian turns.new.ready) turns.new.turn) }
+{
+    let removed = turns.remove(task);
+    let run = turns.next();
+    (removed, run)
 }
 
 /// Makes a step of the queue. Returns whether this agrees with `len`: a task runs exactly if some
