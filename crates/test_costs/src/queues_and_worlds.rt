@@ -33,6 +33,10 @@ impl Measured for ByUrgency {
         costs!(rt; asked, queue.is_ready(768), false, 0, 0);
         costs!(rt; asked, queue.wake(300).is_ok(), true, 0, 1);
         costs!(rt; asked, queue.wake(768).is_ok(), false, 0, 0);
+        costs!(rt; asked, queue.wake(7).is_ok(), true, 0, 1);
+        costs!(rt; asked, queue.remove(7), true, 0, 2);
+        costs!(rt; asked, queue.remove(7), false, 0, 1);
+        costs!(rt; asked, queue.remove(768), false, 0, 0);
         costs!(rt; asked, queue.peek(), Some(300), 5, 0);
         costs!(rt; asked, queue.next(), Some(300), 5, 1);
         costs!(rt; asked, queue.next(), Some(451), 8, 1);
@@ -70,6 +74,9 @@ impl Measured for InTurn {
         costs!(rt; asked, queue.wake(768).is_ok(), false, 0, 0);
         costs!(rt; asked, queue.next(), Some(508), 1, 1);
         costs!(rt; asked, queue.peek(), Some(3), 6, 0);
+        costs!(rt; asked, queue.wake(9).is_ok(), true, 0, 1);
+        costs!(rt; asked, queue.remove(9), true, 0, 2);
+        costs!(rt; asked, queue.remove(768), false, 0, 0);
         costs!(rt; asked, queue.next(), Some(3), 6, 1);
         costs!(rt; asked, queue.next(), None, 13, 0);
     }

@@ -8,13 +8,13 @@ pub(crate) fn draw(state: &mut u32) -> u32 {
     *state >> 8
 }
 
-// Draws an event for a queue of 24 tasks. Half of the events are `Next`. A `Wake` may name a task
-// that does not exist.
+// Draws an event for a queue of 24 tasks. Of eight events, three are `Next`, one is a `Remove` and
+// four are a `Wake`. These may name a task that does not exist.
 pub(crate) fn draw_event(state: &mut u32) -> Event {
     let number = draw(state);
-    if number % 2 == 0 {
-        Event::Next
-    } else {
-        Event::Wake(number / 2 % 27)
+    match number % 8 {
+        0..=2 => Event::Next,
+        3 => Event::Remove(number / 8 % 27),
+        _ => Event::Wake(number / 8 % 27),
     }
 }

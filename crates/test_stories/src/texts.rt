@@ -25,6 +25,7 @@ fn reads<T: Debug>(
 #[test]
 fn events_are_named_with_their_task(rt: HostRuntime) -> Result<(), Fail> {
     reads(&rt, rt.alloc(), &Event::Wake(300), "Wake(300)")?;
+    reads(&rt, rt.alloc(), &Event::Remove(7), "Remove(7)")?;
     reads(&rt, rt.alloc(), &Event::Next, "Next")?;
     Ok(())
 }
@@ -33,6 +34,8 @@ fn events_are_named_with_their_task(rt: HostRuntime) -> Result<(), Fail> {
 fn answers_of_a_queue_are_named_with_their_task(rt: HostRuntime) -> Result<(), Fail> {
     reads(&rt, rt.alloc(), &bit_queue::Answer::Woken, "Woken")?;
     reads(&rt, rt.alloc(), &bit_queue::Answer::NoTask, "NoTask")?;
+    reads(&rt, rt.alloc(), &bit_queue::Answer::Removed, "Removed")?;
+    reads(&rt, rt.alloc(), &bit_queue::Answer::NotReady, "NotReady")?;
     reads(
         &rt,
         rt.alloc(),
