@@ -1,2 +1,4 @@
+pub mod Lists
 pub mod RoleLaws
 pub mod Rows
+pub mod Taken

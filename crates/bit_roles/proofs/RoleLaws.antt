@@ -1,14 +1,23 @@
 -- What follows from the role machine.
-use Rattle.std.proofs.Common.{◌≡◌, ℕ, zero, suc, ◌+◌, ◌<◌, ◌≤◌, ◌↔◌, ◌⊎◌, Bool, true, false, cond, ◌&&◌, ◌||◌, ◌==◌, nat_lt, Option, Some, None, List, [], ◌∷◌, inl, inr, refl, sym, ap, subst, ◌∙◌, arith}
-use Rattle.std.specs.List.{list_any}
-use Rattle.std.proofs.lemmas.Bool.{cases_eq, cases_lt, lt-ltb, ltb-true, eq-eqb, eqb-true, ne_eqb, or_left, or_right, and_from, and_parts, and_right}
+use Rattle.std.proofs.Common.{◌≡◌, ℕ, zero, suc, ◌+◌, ◌<◌, ◌≤◌, ◌↔◌, ◌⊎◌, Bool, true, false, cond, ◌&&◌, ◌==◌, nat_lt, Option, Some, None, List, [], ◌∷◌, inl, inr, refl, sym, ap, subst, ◌∙◌, arith}
+use Rattle.std.proofs.lemmas.Bool.{cases_eq, cases_lt, lt-ltb, ltb-true, eq-eqb, eqb-true, ne_eqb, and_from, and_parts, and_right}
 use Rattle.std.proofs.lemmas.Option.{same_Some}
-use Rattle.bit_roles.specs.Roles.{Roles, parent_of, ancestor, LeadsTo, Allows, AllowsUpTo, HasLesserParents, may_grant, may_inherit, with_granted, with_parent, answer_to, roles_after, request_answers, final_roles, bare_roles}
-use Rattle.bit_roles.specs.RoleLaws.{grants, IsPossible, GivesParent, GivesNoParentFrom}
+use Rattle.bit_roles.specs.Roles.{Roles, parent_of, ancestor, LeadsTo, Allows, AllowsUpTo, HasLesserParents, are_there, may_inherit, with_granted, with_parent, answer_to, roles_after, final_roles, bare_roles}
+use Rattle.bit_roles.specs.RoleLaws.{IsPossible}
 use Rattle.bit_roles.specs.declared.Request.{Request}
-use Rattle.bit_roles.specs.declared.Request.TheVariants.{Grant, Inherit}
+use Rattle.bit_roles.specs.declared.Request.TheVariants.{Grant, Revoke, Inherit, ClearParent}
 use Rattle.bit_roles.specs.declared.Answer.{Answer}
 use Rattle.bit_roles.specs.declared.Answer.TheVariants.{Done, Refused}
+
+-- what holds of two roles holds of the one that a test chooses
+in_both : (P : Roles → Type 0) (b : Bool) (s t : Roles) → P s → P t → P (cond b s t)
+in_both P true s t one two = one
+in_both P false s t one two = two
+
+-- the roles after a `Grant` (`has` is true) or a `Revoke` (false) of a permission
+abbrev pub changed : Roles → ℕ → ℕ → Bool → Roles
+changed r role permission has =
+    cond (are_there r role permission) (with_granted r role permission has) r
 
 -- the role that n + 1 parents lead to from a role is the one that n parents lead to from its parent
 ancestor_up : (r : Roles) (role parent n : ℕ) → r.parent role ≡ Some parent →
@@ -56,7 +65,7 @@ allows_nothing r role permission e none (suc n, other, is, granted) =
     let gone = ancestor_none r role n e in cc
 
 -- along a chain of parents the numbers of the roles decrease
-chain_goes_down : (r : Roles) (role n other : ℕ) → HasLesserParents r →
+pub chain_goes_down : (r : Roles) (role n other : ℕ) → HasLesserParents r →
     ancestor r role n ≡ Some other → other + n ≤ role
 unfolding ancestor
 chain_goes_down r role zero other lesser e = let same : role ≡ other = cc in omega (arith, same)
@@ -73,33 +82,40 @@ pub no_way_back : (r : Roles) (role n : ℕ) → HasLesserParents r →
     ancestor r role (suc n) ≡ Some role → ⊥
 no_way_back r role n lesser e = omega (arith, chain_goes_down r role (suc n) role lesser e)
 
--- after a role is given a parent with a lesser number, each parent still has a lesser number than
--- its role
-pub parent_stays_lesser : (r : Roles) (role parent : ℕ) → parent < role → HasLesserParents r →
+-- after a role is given a parent with a lesser number or none, each parent still has a lesser number
+-- than its role
+pub parent_stays_lesser : (r : Roles) (role : ℕ) (parent : Option ℕ) →
+    ((p : ℕ) → parent ≡ Some p → p < role) → HasLesserParents r →
     HasLesserParents (with_parent r role parent)
-parent_stays_lesser r role parent h lesser k p e = elim (cases_eq k role) [
+parent_stays_lesser r role parent below lesser k p e = elim (cases_eq k role) [
   | inl same ↦
-      let is : Some parent ≡ Some p =
-      ap (λ b. cond b (Some parent) (r.parent k)) (sym (eq-eqb k role same)) ∙ e in
-      let one : parent ≡ p = cc in omega (arith, h, same, one)
+      let is : parent ≡ Some p =
+      ap (λ b. cond b parent (r.parent k)) (sym (eq-eqb k role same)) ∙ e in
+      omega (arith, below p is, same)
   | inr apart ↦ lesser k p
-      (ap (λ b. cond b (Some parent) (r.parent k)) (sym (ne_eqb k role apart)) ∙ e)
+      (ap (λ b. cond b parent (r.parent k)) (sym (ne_eqb k role apart)) ∙ e)
 ]
 
 one_stays_lesser : (r : Roles) (request : Request) → HasLesserParents r →
     HasLesserParents (roles_after r request)
-one_stays_lesser r (Grant role permission) lesser = by (may_grant r role permission)
-  where
-    by : (b : Bool) → HasLesserParents (cond b (with_granted r role permission) r)
-    by true = lesser
-    by false = lesser
+one_stays_lesser r (Grant role permission) lesser =
+    in_both HasLesserParents (are_there r role permission) (with_granted r role permission true) r
+    lesser lesser
+one_stays_lesser r (Revoke role permission) lesser =
+    in_both HasLesserParents (are_there r role permission) (with_granted r role permission false) r
+    lesser lesser
 one_stays_lesser r (Inherit role parent) lesser = by (may_inherit r role parent) refl
   where
     by : (b : Bool) → may_inherit r role parent ≡ b →
-        HasLesserParents (cond b (with_parent r role parent) r)
-    by true e = parent_stays_lesser r role parent
-        (ltb-true parent role (and_parts (nat_lt role r.count) (nat_lt parent role) e).1) lesser
+        HasLesserParents (cond b (with_parent r role (Some parent)) r)
+    by true e =
+        let below = ltb-true parent role (and_parts (nat_lt role r.count) (nat_lt parent role) e).1
+        in parent_stays_lesser r role (Some parent)
+        (λ p is. omega (arith, below, same_Some parent p is)) lesser
     by false e = lesser
+one_stays_lesser r (ClearParent role) lesser =
+    in_both HasLesserParents (nat_lt role r.count) (with_parent r role None) r
+    (parent_stays_lesser r role None (λ p is. absurd (cc)) lesser) lesser
 
 pub stay_lesser : (r : Roles) (requests : List Request) → HasLesserParents r →
     HasLesserParents (final_roles r requests)
@@ -108,276 +124,145 @@ stay_lesser r [] lesser = lesser
 stay_lesser r (request ∷ requests) lesser =
     stay_lesser (roles_after r request) requests (one_stays_lesser r request lesser)
 
--- a grant changes no chain of parents
-same_chain : (r : Roles) (role permission other n : ℕ) →
-    ancestor (with_granted r role permission) other n ≡ ancestor r other n
+-- a grant or a revoke changes no chain of parents
+pub same_chain : (r : Roles) (role permission : ℕ) (has : Bool) (other n : ℕ) →
+    ancestor (with_granted r role permission has) other n ≡ ancestor r other n
 unfolding ancestor
-same_chain r role permission other zero = refl
-same_chain r role permission other (suc n) =
-    ap (parent_of r) (same_chain r role permission other n)
+same_chain r role permission has other zero = refl
+same_chain r role permission has other (suc n) =
+    ap (parent_of r) (same_chain r role permission has other n)
+
+still_true : (a b : Bool) → b ≡ true → cond a true b ≡ true
+still_true true b e = refl
+still_true false b e = e
 
 -- what is allowed is still allowed after a grant
 pub stays_allowed : (r : Roles) (role permission other allowed : ℕ) → Allows r other allowed →
     Allows (roles_after r (Grant role permission)) other allowed
-stays_allowed r role permission other allowed a = by (may_grant r role permission)
+stays_allowed r role permission other allowed a = by (are_there r role permission)
   where
-    by : (b : Bool) → Allows (cond b (with_granted r role permission) r) other allowed
+    by : (b : Bool) → Allows (cond b (with_granted r role permission true) r) other allowed
     by true = (
       a.0,
       a.1,
-      same_chain r role permission other a.0 ∙ a.2,
-      or_right ((a.1 == role) && (allowed == permission)) (r.granted a.1 allowed) a.3,
+      same_chain r role permission true other a.0 ∙ a.2,
+      still_true ((a.1 == role) && (allowed == permission)) (r.granted a.1 allowed) a.3,
     )
     by false = a
 
--- what one request grants
-granted_one : (r : Roles) (request : Request) (role permission : ℕ) → role < r.count →
-    permission < r.permissions → (roles_after r request).granted role permission
-    ≡ (r.granted role permission || grants role permission request)
-granted_one r (Grant other more) role permission h l =
-    by (may_grant r other more) refl (cases_eq role other) (cases_eq permission more)
-  where
-    turn : (a b : Bool) → (a || b) ≡ (b || a)
-    turn true true = refl
-    turn true false = refl
-    turn false true = refl
-    turn false false = refl
-
-    none : (a : Bool) → a ≡ (a || false)
-    none true = refl
-    none false = refl
-
-    by : (b : Bool) → may_grant r other more ≡ b → (role ≡ other) ⊎ (role ≡ other → ⊥) →
-        (permission ≡ more) ⊎ (permission ≡ more → ⊥) →
-        (cond b (with_granted r other more) r).granted role permission
-        ≡ (r.granted role permission || ((role == other) && (permission == more)))
-    by true e _ _ = turn ((role == other) && (permission == more)) (r.granted role permission)
-    by false e (inl same) (inl one) =
-        let is = lt-ltb other r.count (omega (arith, h, same)) in
-        let it = lt-ltb more r.permissions (omega (arith, l, one)) in
-        let may : may_grant r other more ≡ true = rw (is, it) refl in
-        absurd (cc)
-    by false e (inr apart) _ =
-        let no = ne_eqb role other apart in rw no (none (r.granted role permission))
-    by false e (inl same) (inr apart) =
-        let is = eq-eqb role other same in
-        let no = ne_eqb permission more apart in rw (is, no) (none (r.granted role permission))
-granted_one r (Inherit other parent) role permission h l = by (may_inherit r other parent)
-  where
-    none : (a : Bool) → a ≡ (a || false)
-    none true = refl
-    none false = refl
-
-    by : (b : Bool) → (cond b (with_parent r other parent) r).granted role permission
-        ≡ (r.granted role permission || false)
-    by true = none (r.granted role permission)
-    by false = none (r.granted role permission)
-
--- a role has what it was just granted
-pub now_granted : (r : Roles) (role permission : ℕ) → role < r.count →
-    permission < r.permissions →
-    (roles_after r (Grant role permission)).granted role permission ≡ true
-now_granted r role permission h l =
+-- a role has what it was just granted, and does not have what was just taken from it
+pub now_granted : (r : Roles) (role permission : ℕ) (has : Bool) → role < r.count →
+    permission < r.permissions → (changed r role permission has).granted role permission ≡ has
+now_granted r role permission has h l =
     let is = eq-eqb role role refl in
     let it = eq-eqb permission permission refl in
     let both : ((role == role) && (permission == permission)) ≡ true = rw (is, it) refl in
-    granted_one r (Grant role permission) role permission h l
-    ∙ or_right (r.granted role permission) ((role == role) && (permission == permission)) both
+    let may = and_from (nat_lt role r.count) (nat_lt permission r.permissions)
+    (lt-ltb role r.count h) (lt-ltb permission r.permissions l) in
+    ap (λ b. (cond b (with_granted r role permission has) r).granted role permission) may
+    ∙ ap (λ b. cond b has (r.granted role permission)) both
 
--- a grant of one permission to one role grants nothing else
-unless_granted : (r : Roles) (role permission other more : ℕ) →
+-- a grant or a revoke of one permission of one role changes nothing else
+unless_granted : (r : Roles) (role permission : ℕ) (has : Bool) (other more : ℕ) →
     ((other == role) && (more == permission)) ≡ false →
-    (roles_after r (Grant role permission)).granted other more ≡ r.granted other more
-unless_granted r role permission other more apart = by (may_grant r role permission)
-  where
-    by : (b : Bool) → (cond b (with_granted r role permission) r).granted other more
-        ≡ r.granted other more
-    by true = ap (λ b. b || r.granted other more) apart
-    by false = refl
+    (changed r role permission has).granted other more ≡ r.granted other more
+unless_granted r role permission has other more apart =
+    in_both (λ s. s.granted other more ≡ r.granted other more) (are_there r role permission)
+    (with_granted r role permission has) r (ap (λ b. cond b has (r.granted other more)) apart) refl
 
--- a grant changes no permission of another role
-pub other_roles_keep : (r : Roles) (role permission other more : ℕ) → (other ≡ role → ⊥) →
-    (roles_after r (Grant role permission)).granted other more ≡ r.granted other more
-other_roles_keep r role permission other more apart =
-    unless_granted r role permission other more
+-- a grant or a revoke changes no permission of another role
+pub other_roles_keep : (r : Roles) (role permission : ℕ) (has : Bool) (other more : ℕ) →
+    (other ≡ role → ⊥) → (changed r role permission has).granted other more ≡ r.granted other more
+other_roles_keep r role permission has other more apart =
+    unless_granted r role permission has other more
     (ap (λ b. b && (more == permission)) (ne_eqb other role apart))
 
--- a grant changes no other permission of any role
-pub other_permissions_keep : (r : Roles) (role permission other more : ℕ) →
+-- a grant or a revoke changes no other permission of any role
+pub other_permissions_keep : (r : Roles) (role permission : ℕ) (has : Bool) (other more : ℕ) →
     (more ≡ permission → ⊥) →
-    (roles_after r (Grant role permission)).granted other more ≡ r.granted other more
-other_permissions_keep r role permission other more apart =
-    unless_granted r role permission other more
+    (changed r role permission has).granted other more ≡ r.granted other more
+other_permissions_keep r role permission has other more apart =
+    unless_granted r role permission has other more
     (and_right (other == role) (more == permission) (ne_eqb more permission apart))
 
--- a parent that is given to a role changes no parent of another role
-pub other_parents_keep : (r : Roles) (role parent other : ℕ) → (other ≡ role → ⊥) →
-    (roles_after r (Inherit role parent)).parent other ≡ r.parent other
-other_parents_keep r role parent other apart = by (may_inherit r role parent)
-  where
-    by : (b : Bool) → (cond b (with_parent r role parent) r).parent other ≡ r.parent other
-    by true = ap (λ b. cond b (Some parent) (r.parent other)) (ne_eqb other role apart)
-    by false = refl
+-- a parent that is given to a role or taken from it changes no parent of another role
+pub other_parents_keep : (r : Roles) (may : Bool) (role : ℕ) (parent : Option ℕ) (other : ℕ) →
+    (other ≡ role → ⊥) → (cond may (with_parent r role parent) r).parent other ≡ r.parent other
+other_parents_keep r may role parent other apart =
+    in_both (λ s. s.parent other ≡ r.parent other) may (with_parent r role parent) r
+    (ap (λ b. cond b parent (r.parent other)) (ne_eqb other role apart)) refl
 
 -- a parent that is given to a role grants nothing
 inherit_keeps : (r : Roles) (role parent other more : ℕ) →
     (roles_after r (Inherit role parent)).granted other more ≡ r.granted other more
-inherit_keeps r role parent other more = by (may_inherit r role parent)
-  where
-    by : (b : Bool) → (cond b (with_parent r role parent) r).granted other more
-        ≡ r.granted other more
-    by true = refl
-    by false = refl
+inherit_keeps r role parent other more =
+    in_both (λ s. s.granted other more ≡ r.granted other more) (may_inherit r role parent)
+    (with_parent r role (Some parent)) r refl refl
+
+abbrev SameCounts : Roles → Roles → Type 0
+SameCounts r s = (s.count ≡ r.count) × (s.permissions ≡ r.permissions)
 
 -- a request keeps how many roles and permissions there are
-same_counts : (r : Roles) (request : Request) →
-    ((roles_after r request).count ≡ r.count) × ((roles_after r request).permissions ≡ r.permissions)
-same_counts r (Grant role permission) = by (may_grant r role permission)
-  where
-    by : (b : Bool) → ((cond b (with_granted r role permission) r).count ≡ r.count)
-        × ((cond b (with_granted r role permission) r).permissions ≡ r.permissions)
-    by true = (refl, refl)
-    by false = (refl, refl)
-same_counts r (Inherit role parent) = by (may_inherit r role parent)
-  where
-    by : (b : Bool) → ((cond b (with_parent r role parent) r).count ≡ r.count)
-        × ((cond b (with_parent r role parent) r).permissions ≡ r.permissions)
-    by true = (refl, refl)
-    by false = (refl, refl)
+same_counts : (r : Roles) (request : Request) → SameCounts r (roles_after r request)
+same_counts r (Grant role permission) =
+    in_both (SameCounts r) (are_there r role permission) (with_granted r role permission true) r
+    (refl, refl) (refl, refl)
+same_counts r (Revoke role permission) =
+    in_both (SameCounts r) (are_there r role permission) (with_granted r role permission false) r
+    (refl, refl) (refl, refl)
+same_counts r (Inherit role parent) =
+    in_both (SameCounts r) (may_inherit r role parent) (with_parent r role (Some parent)) r
+    (refl, refl) (refl, refl)
+same_counts r (ClearParent role) =
+    in_both (SameCounts r) (nat_lt role r.count) (with_parent r role None) r
+    (refl, refl) (refl, refl)
 
-either : (a b c : Bool) → ((a || b) || c) ≡ (a || (b || c))
-either true b c = refl
-either false b c = refl
+-- what a test decides is answered by Done exactly if what it tests holds
+done_iff : (may : Bool) (P : Type 0) → (may ≡ true → P) → (P → may ≡ true) →
+    (cond may Done Refused ≡ Done) ↔ P
+done_iff true P holds may = (λ _. holds refl, λ _. refl)
+done_iff false P holds may = (λ no. absurd (cc), λ is. let yes = may is in absurd (cc))
 
--- what a list of requests grants
-pub granted_run : (r : Roles) (requests : List Request) (role permission : ℕ) → role < r.count →
-    permission < r.permissions → (final_roles r requests).granted role permission
-    ≡ (r.granted role permission || list_any (grants role permission) requests)
-unfolding final_roles
-granted_run r [] role permission h l = by (r.granted role permission)
-  where
-    by : (a : Bool) → a ≡ (a || false)
-    by true = refl
-    by false = refl
-granted_run r (request ∷ requests) role permission h l =
-    let same = same_counts r request in
-    granted_run (roles_after r request) requests role permission
-    (omega (arith, h, same.0)) (omega (arith, l, same.1))
-    ∙ ap (λ b. b || list_any (grants role permission) requests)
-    (granted_one r request role permission h l)
-    ∙ either (r.granted role permission) (grants role permission request)
-    (list_any (grants role permission) requests)
+both_less : (a b c d : ℕ) → (nat_lt a b && nat_lt c d) ≡ true → (a < b) × (c < d)
+both_less a b c d e =
+    let both = and_parts (nat_lt a b) (nat_lt c d) e in
+    (ltb-true a b both.0, ltb-true c d both.1)
 
--- a request that does not give a role a parent leaves the role's parent
-one_kept : (r : Roles) (request : Request) (role : ℕ) →
-    ((parent : ℕ) → (Some request ≡ Some (Inherit role parent))
-    × (Some (answer_to r request) ≡ Some Done) → ⊥) →
-    (roles_after r request).parent role ≡ r.parent role
-one_kept r (Grant other permission) role none = by (may_grant r other permission)
-  where
-    by : (b : Bool) → (cond b (with_granted r other permission) r).parent role ≡ r.parent role
-    by true = refl
-    by false = refl
-one_kept r (Inherit other parent) role none = elim (cases_eq role other) [
-  | inl same ↦ by same (may_inherit r other parent) refl
-  | inr apart ↦ other_parents_keep r other parent role apart
-]
-  where
-    by : role ≡ other → (b : Bool) → may_inherit r other parent ≡ b →
-        (cond b (with_parent r other parent) r).parent role ≡ r.parent role
-    by same true e = absurd (none parent (
-      ap (λ k. Some (Inherit k parent)) (sym same),
-      ap (λ b. Some (cond b Done Refused)) e,
-    ))
-    by same false e = refl
-
--- a role that no request gives a parent keeps its parent
-pub parent_kept : (r : Roles) (requests : List Request) (role : ℕ) →
-    GivesNoParentFrom requests (request_answers r requests) role 0 →
-    (final_roles r requests).parent role ≡ r.parent role
-unfolding final_roles request_answers
-parent_kept r [] role none = refl
-parent_kept r (request ∷ requests) role none =
-    parent_kept (roles_after r request) requests role
-    (λ j p _ given. none (suc j) p (omega arith) given)
-    ∙ one_kept r request role (λ p given. none 0 p (omega arith) given)
-
--- a request that is answered by Done gives the role its parent
-one_given : (r : Roles) (request : Request) (role parent : ℕ) → request ≡ Inherit role parent →
-    answer_to r request ≡ Done → (roles_after r request).parent role ≡ Some parent
-one_given r request role parent is done =
-    ap (λ q. (roles_after r q).parent role) is
-    ∙ by (may_inherit r role parent) (sym (ap (answer_to r) is) ∙ done)
-  where
-    by : (b : Bool) → cond b Done Refused ≡ Done →
-        (cond b (with_parent r role parent) r).parent role ≡ Some parent
-    by true e = ap (λ b. cond b (Some parent) (r.parent role)) (eq-eqb role role refl)
-    by false e = absurd (cc)
-
--- the parent of a role is the one that it was given last
-pub last_given : (r : Roles) (requests : List Request) (role parent i : ℕ) →
-    GivesParent requests (request_answers r requests) role parent i →
-    GivesNoParentFrom requests (request_answers r requests) role (i + 1) →
-    (final_roles r requests).parent role ≡ Some parent
-unfolding final_roles request_answers
-last_given r [] role parent i given none = absurd (cc (given.0))
-last_given r (request ∷ requests) role parent zero given none =
-    parent_kept (roles_after r request) requests role
-    (λ j p _ later. none (suc j) p (omega arith) later)
-    ∙ one_given r request role parent (same_Some request (Inherit role parent) given.0)
-    (same_Some (answer_to r request) Done given.1)
-last_given r (request ∷ requests) role parent (suc i) given none =
-    last_given (roles_after r request) requests role parent i given
-    (λ j p h later. none (suc j) p (omega (arith, h)) later)
+pub less_both : (a b c d : ℕ) → (a < b) × (c < d) → (nat_lt a b && nat_lt c d) ≡ true
+less_both a b c d is =
+    and_from (nat_lt a b) (nat_lt c d) (lt-ltb a b is.0) (lt-ltb c d is.1)
 
 -- a request is answered by Done exactly if it is possible
 pub done_exactly : (r : Roles) (request : Request) →
     (answer_to r request ≡ Done) ↔ IsPossible r request
-done_exactly r (Grant role permission) = by (may_grant r role permission) refl
-  where
-    by : (b : Bool) → may_grant r role permission ≡ b →
-        (cond b Done Refused ≡ Done) ↔ ((role < r.count) × (permission < r.permissions))
-    by true e = let both = and_parts (nat_lt role r.count) (nat_lt permission r.permissions) e in (
-      λ _. (ltb-true role r.count both.0, ltb-true permission r.permissions both.1),
-      λ _. refl,
-    )
-    by false e = (
-      λ no. absurd (cc),
-      λ is.
-          let may = and_from (nat_lt role r.count) (nat_lt permission r.permissions)
-          (lt-ltb role r.count is.0) (lt-ltb permission r.permissions is.1) in
-          absurd (cc),
-    )
-done_exactly r (Inherit role parent) = by (may_inherit r role parent) refl
-  where
-    by : (b : Bool) → may_inherit r role parent ≡ b →
-        (cond b Done Refused ≡ Done) ↔ ((role < r.count) × (parent < role))
-    by true e = let both = and_parts (nat_lt role r.count) (nat_lt parent role) e in (
-      λ _. (ltb-true role r.count both.0, ltb-true parent role both.1),
-      λ _. refl,
-    )
-    by false e = (
-      λ no. absurd (cc),
-      λ is.
-          let may = and_from (nat_lt role r.count) (nat_lt parent role)
-          (lt-ltb role r.count is.0) (lt-ltb parent role is.1) in
-          absurd (cc),
-    )
+done_exactly r (Grant role permission) =
+    done_iff (are_there r role permission) _ (both_less role r.count permission r.permissions)
+    (less_both role r.count permission r.permissions)
+done_exactly r (Revoke role permission) =
+    done_iff (are_there r role permission) _ (both_less role r.count permission r.permissions)
+    (less_both role r.count permission r.permissions)
+done_exactly r (Inherit role parent) =
+    done_iff (may_inherit r role parent) _ (both_less role r.count parent role)
+    (less_both role r.count parent role)
+done_exactly r (ClearParent role) =
+    done_iff (nat_lt role r.count) _ (ltb-true role r.count) (lt-ltb role r.count)
+
+-- what is refused is not chosen
+not_chosen : (may : Bool) (s r : Roles) → cond may Done Refused ≡ Refused → cond may s r ≡ r
+not_chosen true s r e = absurd (cc)
+not_chosen false s r e = refl
 
 -- a request that is refused changes nothing
 pub refused_keeps : (r : Roles) (request : Request) → answer_to r request ≡ Refused →
     roles_after r request ≡ r
-refused_keeps r (Grant role permission) = by (may_grant r role permission)
-  where
-    by : (b : Bool) → cond b Done Refused ≡ Refused →
-        cond b (with_granted r role permission) r ≡ r
-    by true e = absurd (cc)
-    by false e = refl
-refused_keeps r (Inherit role parent) = by (may_inherit r role parent)
-  where
-    by : (b : Bool) → cond b Done Refused ≡ Refused → cond b (with_parent r role parent) r ≡ r
-    by true e = absurd (cc)
-    by false e = refl
+refused_keeps r (Grant role permission) =
+    not_chosen (are_there r role permission) (with_granted r role permission true) r
+refused_keeps r (Revoke role permission) =
+    not_chosen (are_there r role permission) (with_granted r role permission false) r
+refused_keeps r (Inherit role parent) =
+    not_chosen (may_inherit r role parent) (with_parent r role (Some parent)) r
+refused_keeps r (ClearParent role) =
+    not_chosen (nat_lt role r.count) (with_parent r role None) r
 
 -- requests keep how many roles and permissions there are
 pub same_counts_run : (r : Roles) (requests : List Request) →
@@ -416,7 +301,7 @@ pub bare_allow_nothing : (count permissions role permission : ℕ) →
 bare_allow_nothing count permissions role permission =
     allows_nothing (bare_roles count permissions) role permission refl refl
 
-one_or_both : (a b : Bool) → (a || b) ≡ true → (a ≡ true) ⊎ (b ≡ true)
+one_or_both : (a b : Bool) → cond a true b ≡ true → (a ≡ true) ⊎ (b ≡ true)
 one_or_both true b e = inl refl
 one_or_both false b e = inr e
 
@@ -425,13 +310,13 @@ pub grant_gives : (r : Roles) (role permission other allowed : ℕ) →
     answer_to r (Grant role permission) ≡ Done →
     Allows (roles_after r (Grant role permission)) other allowed
     ↔ (Allows r other allowed ⊎ ((allowed ≡ permission) × LeadsTo r other role))
-grant_gives r role permission other allowed = by (may_grant r role permission)
+grant_gives r role permission other allowed = by (are_there r role permission)
   where
-    chain : (n : ℕ) → ancestor (with_granted r role permission) other n ≡ ancestor r other n
-    chain = same_chain r role permission other
+    chain : (n : ℕ) → ancestor (with_granted r role permission true) other n ≡ ancestor r other n
+    chain = same_chain r role permission true other
 
     by : (b : Bool) → cond b Done Refused ≡ Done →
-        Allows (cond b (with_granted r role permission) r) other allowed
+        Allows (cond b (with_granted r role permission true) r) other allowed
         ↔ (Allows r other allowed ⊎ ((allowed ≡ permission) × LeadsTo r other role))
     by false e = absurd (cc)
     by true e = (
@@ -450,14 +335,13 @@ grant_gives r role permission other allowed = by (may_grant r role permission)
           a.0,
           a.1,
           chain a.0 ∙ a.2,
-          or_right ((a.1 == role) && (allowed == permission)) (r.granted a.1 allowed) a.3,
+          still_true ((a.1 == role) && (allowed == permission)) (r.granted a.1 allowed) a.3,
         )
         | inr new ↦ (
           new.1.0,
           role,
           chain new.1.0 ∙ new.1.1,
-          or_left ((role == role) && (allowed == permission)) (r.granted role allowed)
-              (and_from (role == role) (allowed == permission) (eq-eqb role role refl)
+          ap (λ b. cond b true (r.granted role allowed)) (and_from (role == role) (allowed == permission) (eq-eqb role role refl)
               (eq-eqb allowed permission new.0)),
         )
       ],
@@ -478,8 +362,8 @@ others_gain_nothing r role permission other allowed apart a =
     by Refused is =
         subst (λ q. Allows q other allowed) (refused_keeps r (Grant role permission) is) a
 
--- a new parent of a role changes no chain up to the role
-chain_up_to : (r : Roles) (role parent other n : ℕ) →
+-- a new parent of a role, or none, changes no chain up to the role
+pub chain_up_to : (r : Roles) (role : ℕ) (parent : Option ℕ) (other n : ℕ) →
     ((m : ℕ) → m < n → ancestor r other m ≡ Some role → ⊥) →
     ancestor (with_parent r role parent) other n ≡ ancestor r other n
 unfolding ancestor
@@ -494,25 +378,29 @@ chain_up_to r role parent other (suc n) none =
     by None is = refl
     by (Some k) is = elim (cases_eq k role) [
       | inl same ↦ absurd (none n (omega arith) (is ∙ ap Some same))
-      | inr differs ↦ ap (λ b. cond b (Some parent) (r.parent k)) (ne_eqb k role differs)
+      | inr differs ↦ ap (λ b. cond b parent (r.parent k)) (ne_eqb k role differs)
     ]
 
--- a new parent of a role changes nothing for a role whose chain does not come to the role
-pub others_allow_same : (r : Roles) (role parent other allowed : ℕ) →
-    (LeadsTo r other role → ⊥) →
-    Allows (roles_after r (Inherit role parent)) other allowed ↔ Allows r other allowed
-others_allow_same r role parent other allowed apart = by (may_inherit r role parent)
+-- a new parent of a role, or none, changes nothing for a role whose chain does not come to the role
+pub others_allow_same : (r : Roles) (may : Bool) (role : ℕ) (parent : Option ℕ)
+    (other allowed : ℕ) → (LeadsTo r other role → ⊥) →
+    Allows (cond may (with_parent r role parent) r) other allowed ↔ Allows r other allowed
+others_allow_same r may role parent other allowed apart =
+    in_both (λ s. Allows s other allowed ↔ Allows r other allowed) may
+    (with_parent r role parent) r (
+      λ a. (a.0, a.1, sym (chain a.0) ∙ a.2, a.3),
+      λ a. (a.0, a.1, chain a.0 ∙ a.2, a.3),
+    ) (λ a. a, λ a. a)
   where
     chain : (n : ℕ) → ancestor (with_parent r role parent) other n ≡ ancestor r other n
     chain n = chain_up_to r role parent other n (λ m h is. apart (m, is))
 
-    by : (b : Bool) →
-        Allows (cond b (with_parent r role parent) r) other allowed ↔ Allows r other allowed
-    by true = (
-      λ a. (a.0, a.1, sym (chain a.0) ∙ a.2, a.3),
-      λ a. (a.0, a.1, chain a.0 ∙ a.2, a.3),
-    )
-    by false = (λ a. a, λ a. a)
+-- a request that is done gives the role its parent, or none
+pub parent_now : (r : Roles) (may : Bool) (role : ℕ) (parent : Option ℕ) →
+    cond may Done Refused ≡ Done → (cond may (with_parent r role parent) r).parent role ≡ parent
+parent_now r true role parent e =
+    ap (λ b. cond b parent (r.parent role)) (eq-eqb role role refl)
+parent_now r false role parent e = absurd (cc)
 
 -- a role that was given a parent allows what it was granted and what the parent allowed
 pub inherit_gives : (r : Roles) (role parent allowed : ℕ) → HasLesserParents r →
@@ -523,10 +411,10 @@ inherit_gives r role parent allowed lesser done =
     let after : Roles = roles_after r (Inherit role parent) in
     let below : parent < role = ((done_exactly r (Inherit role parent)).0 done).1 in
     let up : after.parent role ≡ Some parent =
-    one_given r (Inherit role parent) role parent refl done in
+    parent_now r (may_inherit r role parent) role (Some parent) done in
     let own : after.granted role allowed ≡ r.granted role allowed =
     inherit_keeps r role parent role allowed in
-    let same = others_allow_same r role parent parent allowed
+    let same = others_allow_same r (may_inherit r role parent) role (Some parent) parent allowed
     (λ leads. omega (arith, below, chain_goes_down r parent leads.0 role lesser leads.1)) in (
       λ a. elim ((allows_by_parent after role allowed).0 a) [
         | inl is ↦ inl (sym own ∙ is)
@@ -541,7 +429,7 @@ inherit_gives r role parent allowed lesser done =
     )
 
 -- the first n roles of a chain do not have the role `role`, or have it at a first place
-first_place : (r : Roles) (role other n : ℕ) →
+pub first_place : (r : Roles) (role other n : ℕ) →
     ((m : ℕ) × (m < n) × (ancestor r other m ≡ Some role)
     × ((l : ℕ) → l < m → ancestor r other l ≡ Some role → ⊥))
     ⊎ ((m : ℕ) → m < n → ancestor r other m ≡ Some role → ⊥)
@@ -588,7 +476,7 @@ allows_along r other role permission (suc m) is a =
     by (Some k) along up = along k refl (allows_up r k role permission up a)
 
 -- if a chain comes to a role, each later role of the chain is an ancestor of that role
-later_place : (r : Roles) (other role m n : ℕ) → ancestor r other m ≡ Some role → m ≤ n →
+pub later_place : (r : Roles) (other role m n : ℕ) → ancestor r other m ≡ Some role → m ≤ n →
     (j : ℕ) × (ancestor r other n ≡ ancestor r role j)
 unfolding ancestor
 later_place r other role m zero is h =
@@ -617,14 +505,15 @@ up_to_or_past r role other permission a = elim (first_place r role other a.0) [
 
 -- a chain of parents that leads to a role still does so after that role is given a parent
 still_leads : (r : Roles) (role parent other : ℕ) → LeadsTo r other role →
-    (m : ℕ) × (ancestor (with_parent r role parent) other m ≡ Some role)
+    (m : ℕ) × (ancestor (with_parent r role (Some parent)) other m ≡ Some role)
 still_leads r role parent other leads = elim (first_place r role other (suc leads.0)) [
-  | inl found ↦ (found.0, chain_up_to r role parent other found.0 found.3 ∙ found.2)
+  | inl found ↦ (found.0, chain_up_to r role (Some parent) other found.0 found.3 ∙ found.2)
   | inr none ↦ absurd (none leads.0 (omega arith) leads.1)
 ]
 
--- what a role allowed up to the role that is given a parent, it still allows
-up_to_stays : (r : Roles) (role parent other allowed : ℕ) → AllowsUpTo r role other allowed →
+-- what a role allowed up to the role that is given a parent, or loses it, it still allows
+pub up_to_stays : (r : Roles) (role : ℕ) (parent : Option ℕ) (other allowed : ℕ) →
+    AllowsUpTo r role other allowed →
     Allows (with_parent r role parent) other allowed
 up_to_stays r role parent other allowed a =
     (a.0, a.1, chain_up_to r role parent other a.0 a.4 ∙ a.2, a.3)
@@ -639,9 +528,9 @@ inherit_replaces r role parent other allowed lesser done =
     by (may_inherit r role parent) done (inherit_gives r role parent allowed lesser done)
   where
     by : (b : Bool) → cond b Done Refused ≡ Done →
-        (Allows (cond b (with_parent r role parent) r) role allowed
+        (Allows (cond b (with_parent r role (Some parent)) r) role allowed
         ↔ ((r.granted role allowed ≡ true) ⊎ Allows r parent allowed)) →
-        Allows (cond b (with_parent r role parent) r) other allowed
+        Allows (cond b (with_parent r role (Some parent)) r) other allowed
         ↔ (AllowsUpTo r role other allowed ⊎ (LeadsTo r other role × Allows r parent allowed))
     by false e gives = absurd (cc)
     by true e gives = (
@@ -649,14 +538,14 @@ inherit_replaces r role parent other allowed lesser done =
         | inr none ↦ inl (
           a.0,
           a.1,
-          sym (chain_up_to r role parent other a.0 none) ∙ a.2,
+          sym (chain_up_to r role (Some parent) other a.0 none) ∙ a.2,
           a.3,
           none,
         )
         | inl found ↦
-            let there : ancestor (with_parent r role parent) other found.0 ≡ Some role =
-            chain_up_to r role parent other found.0 found.3 ∙ found.2 in
-            let past = later_place (with_parent r role parent) other role found.0 a.0 there
+            let there : ancestor (with_parent r role (Some parent)) other found.0 ≡ Some role =
+            chain_up_to r role (Some parent) other found.0 found.3 ∙ found.2 in
+            let past = later_place (with_parent r role (Some parent)) other role found.0 a.0 there
             (omega (arith, found.1)) in
             elim (gives.0 (past.0, a.1, sym past.1 ∙ a.2, a.3)) [
               | inl own ↦ inl (found.0, role, found.2, own, found.3)
@@ -664,10 +553,10 @@ inherit_replaces r role parent other allowed lesser done =
             ]
       ],
       λ either. elim either [
-        | inl a ↦ up_to_stays r role parent other allowed a
+        | inl a ↦ up_to_stays r role (Some parent) other allowed a
         | inr new ↦
             let there = still_leads r role parent other new.0 in
-            allows_along (with_parent r role parent) other role allowed there.0 there.1
+            allows_along (with_parent r role (Some parent)) other role allowed there.0 there.1
             (gives.1 (inr new.1))
       ],
     )

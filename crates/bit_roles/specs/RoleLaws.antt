@@ -1,17 +1,18 @@
 -- Laws of the role machine, for all requests.
-use Rattle.std.specs.List.{list_any}
-use Rattle.std.specs.Prelude.{◌≡◌, ℕ, suc, ◌+◌, ◌<◌, ◌≤◌, ◌↔◌, ◌⊎◌, Bool, true, false, ◌&&◌, ◌||◌, ◌==◌, Some, List, slice_get}
+use Rattle.std.specs.Prelude.{◌≡◌, ℕ, suc, ◌+◌, ◌<◌, ◌≤◌, ◌↔◌, ◌⊎◌, true, Option, Some, None, List, slice_get}
 use Rattle.bit_roles.specs.Roles.{Roles, ancestor, LeadsTo, Allows, AllowsUpTo, HasLesserParents, answer_to, roles_after, request_answers, final_roles, bare_roles}
 use Rattle.bit_roles.specs.declared.Request.{Request}
-use Rattle.bit_roles.specs.declared.Request.TheVariants.{Grant, Inherit}
+use Rattle.bit_roles.specs.declared.Request.TheVariants.{Grant, Revoke, Inherit, ClearParent}
 use Rattle.bit_roles.specs.declared.Answer.{Answer}
 use Rattle.bit_roles.specs.declared.Answer.TheVariants.{Done, Refused}
 
--- there are the role and the permission of a grant, or the role of an `Inherit`, whose parent is
--- less than the role
+-- there is the role of the request, and a `Grant` or `Revoke` names a permission that exists, an
+-- `Inherit` a parent that is less than the role
 abbrev pub IsPossible : Roles → Request → Type 0
 IsPossible r (Grant role permission) = (role < r.count) × (permission < r.permissions)
+IsPossible r (Revoke role permission) = (role < r.count) × (permission < r.permissions)
 IsPossible r (Inherit role parent) = (role < r.count) × (parent < role)
+IsPossible r (ClearParent role) = role < r.count
 
 -- a request is answered by Done exactly if it is possible
 abbrev pub DoneExactlyIfPossible : Type 0
@@ -38,20 +39,27 @@ AllowsOwnAndParents =
     ↔ ((r.granted role permission ≡ true)
     ⊎ ((parent : ℕ) × (r.parent role ≡ Some parent) × Allows r parent permission))
 
--- whether a request grants this permission to this role
-abbrev pub grants : ℕ → ℕ → Request → Bool
-grants role permission (Grant other more) = (role == other) && (permission == more)
-grants role permission (Inherit other parent) = false
+-- request i of a list is the one named, and its answer is Done
+abbrev pub IsDone : List Request → List Answer → Request → ℕ → Type 0
+IsDone requests answers request i =
+    (slice_get requests i ≡ Some request) × (slice_get answers i ≡ Some Done)
 
--- after a list of requests a role has just the permissions that it was granted before the list and
--- those that the list grants it
-abbrev pub GrantsAreThoseAskedFor : Type 0
-GrantsAreThoseAskedFor =
+-- request k of a list grants the role the permission, and no later request takes it back
+pub record IsKeptFrom (r : Roles) (requests : List Request) (role permission k : ℕ) : Type 0 where
+  pub granted : IsDone requests (request_answers r requests) (Grant role permission) k
+  pub not_revoked : (j : ℕ) → k < j
+      → IsDone requests (request_answers r requests) (Revoke role permission) j
+      → ⊥
+
+-- after a list of requests a role has a permission exactly if it was granted the permission before
+-- the list and no request takes it back, or a request grants it and no later request takes it back
+abbrev pub GrantsAreThoseKept : Type 0
+GrantsAreThoseKept =
     (r : Roles) (requests : List Request) (role permission : ℕ)
-    → role < r.count
-    → permission < r.permissions
-    → (final_roles r requests).granted role permission
-    ≡ (r.granted role permission || list_any (grants role permission) requests)
+    → ((final_roles r requests).granted role permission ≡ true)
+    ↔ (((r.granted role permission ≡ true)
+    × ((j : ℕ) → IsDone requests (request_answers r requests) (Revoke role permission) j → ⊥))
+    ⊎ ((k : ℕ) × IsKeptFrom r requests role permission k))
 
 -- a role that allows a permission still allows it after any grant
 abbrev pub GrantingTakesNothingAway : Type 0
@@ -75,6 +83,16 @@ GrantsGiveJustTheirPermission =
     → answer_to r (Grant role permission) ≡ Done
     → Allows (roles_after r (Grant role permission)) other allowed
     ↔ (Allows r other allowed ⊎ ((allowed ≡ permission) × LeadsTo r other role))
+
+-- after a `Revoke` that is done each role allows what it or a role of its chain of parents holds,
+-- other than the permission that was taken from the role of the `Revoke` itself
+abbrev pub RevokesTakeJustTheirPermission : Type 0
+RevokesTakeJustTheirPermission =
+    (r : Roles) (role permission other allowed : ℕ)
+    → answer_to r (Revoke role permission) ≡ Done
+    → Allows (roles_after r (Revoke role permission)) other allowed
+    ↔ ((holder : ℕ) × LeadsTo r other holder × (r.granted holder allowed ≡ true)
+    × ((holder ≡ role) × (allowed ≡ permission) → ⊥))
 
 -- if each parent has a lesser number than its role, a role that was just given a parent allows what
 -- it was granted and what the parent allowed before
@@ -117,29 +135,41 @@ InheritingChangesOnlyDescendants =
     → (LeadsTo r other role → ⊥)
     → Allows (roles_after r (Inherit role parent)) other allowed ↔ Allows r other allowed
 
--- request i of a list asks that the role inherit from the parent, and its answer is Done
-abbrev pub GivesParent : List Request → List Answer → ℕ → ℕ → ℕ → Type 0
-GivesParent requests answers role parent i =
-    (slice_get requests i ≡ Some (Inherit role parent)) × (slice_get answers i ≡ Some Done)
+-- after a `ClearParent` that is done each role allows just what it allowed before by a chain of
+-- parents that does not go past the role that lost its parent
+abbrev pub ClearingAParentTakesWhatWasInherited : Type 0
+ClearingAParentTakesWhatWasInherited =
+    (r : Roles) (role other allowed : ℕ)
+    → answer_to r (ClearParent role) ≡ Done
+    → Allows (roles_after r (ClearParent role)) other allowed ↔ AllowsUpTo r role other allowed
 
--- no request from number `from` on gives the role a parent
-abbrev pub GivesNoParentFrom : List Request → List Answer → ℕ → ℕ → Type 0
-GivesNoParentFrom requests answers role from =
-    (i parent : ℕ) → from ≤ i → GivesParent requests answers role parent i → ⊥
+-- the request that gives the role this parent, or takes its parent away (None)
+abbrev pub parent_request : ℕ → Option ℕ → Request
+parent_request role None = ClearParent role
+parent_request role (Some parent) = Inherit role parent
 
--- after a list of requests a role has the parent that the list gave it last
+-- no request from number `from` on gives the role a parent or takes its parent away
+abbrev pub SetsNoParentFrom : List Request → List Answer → ℕ → ℕ → Type 0
+SetsNoParentFrom requests answers role from =
+    (i : ℕ) (parent : Option ℕ) → from ≤ i
+    → IsDone requests answers (parent_request role parent) i
+    → ⊥
+
+-- after a list of requests a role has the parent that the list gave it last, or none if the list
+-- took its parent away since
 abbrev pub ParentsAreThoseLastGiven : Type 0
 ParentsAreThoseLastGiven =
-    (r : Roles) (requests : List Request) (role parent i : ℕ)
-    → GivesParent requests (request_answers r requests) role parent i
-    → GivesNoParentFrom requests (request_answers r requests) role (i + 1)
-    → (final_roles r requests).parent role ≡ Some parent
+    (r : Roles) (requests : List Request) (role : ℕ) (parent : Option ℕ) (i : ℕ)
+    → IsDone requests (request_answers r requests) (parent_request role parent) i
+    → SetsNoParentFrom requests (request_answers r requests) role (i + 1)
+    → (final_roles r requests).parent role ≡ parent
 
--- a role to which a list of requests gives no parent has the parent that it had before the list
+-- a role that a list of requests neither gives a parent nor takes its parent from has the parent
+-- that it had before the list
 abbrev pub ParentsStayIfNoneIsGiven : Type 0
 ParentsStayIfNoneIsGiven =
     (r : Roles) (requests : List Request) (role : ℕ)
-    → GivesNoParentFrom requests (request_answers r requests) role 0
+    → SetsNoParentFrom requests (request_answers r requests) role 0
     → (final_roles r requests).parent role ≡ r.parent role
 
 -- if each parent has a lesser number than its role, this stays so after any requests

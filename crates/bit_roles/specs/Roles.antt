@@ -1,11 +1,11 @@
 -- The role machine: its state tells which permissions each role was granted and which parent the
 -- role has, and each request has an answer and a next state. Roles and permissions are numbers.
 use Rattle.std.specs.List.{fold, scan}
-use Rattle.std.specs.Prelude.{◌≡◌, ◌≢◌, ℕ, zero, suc, ◌<◌, Bool, true, false, ◌&&◌, ◌||◌, ◌==◌, nat_lt, if◌then◌else◌}
+use Rattle.std.specs.Prelude.{◌≡◌, ◌≢◌, ℕ, zero, suc, ◌<◌, Bool, true, false, ◌&&◌, ◌==◌, nat_lt, if◌then◌else◌}
 use Rattle.std.specs.Prelude.{Option, Some, None, List, slice_get}
 use Rattle.bittle.specs.PlainSet.{PlainSet}
 use Rattle.bit_roles.specs.declared.Request.{Request}
-use Rattle.bit_roles.specs.declared.Request.TheVariants.{Grant, Inherit}
+use Rattle.bit_roles.specs.declared.Request.TheVariants.{Grant, Revoke, Inherit, ClearParent}
 use Rattle.bit_roles.specs.declared.Answer.{Answer}
 use Rattle.bit_roles.specs.declared.Answer.TheVariants.{Done, Refused}
 
@@ -48,44 +48,50 @@ abbrev pub HasLesserParents : Roles → Type 0
 HasLesserParents r = (role parent : ℕ) → r.parent role ≡ Some parent → parent < role
 
 -- whether there are such a role and such a permission
-abbrev pub may_grant : Roles → ℕ → ℕ → Bool
-may_grant r role permission = nat_lt role r.count && nat_lt permission r.permissions
+abbrev pub are_there : Roles → ℕ → ℕ → Bool
+are_there r role permission = nat_lt role r.count && nat_lt permission r.permissions
 
 -- whether there is such a role, and the parent is less than the role
 abbrev pub may_inherit : Roles → ℕ → ℕ → Bool
 may_inherit r role parent = nat_lt role r.count && nat_lt parent role
 
--- the roles after one role was granted one more permission
-abbrev pub with_granted : Roles → ℕ → ℕ → Roles
-with_granted r role permission = record {
+-- the roles after one role was granted one permission (`has` is true), or lost it (false)
+abbrev pub with_granted : Roles → ℕ → ℕ → Bool → Roles
+with_granted r role permission has = record {
   count = r.count;
   permissions = r.permissions;
-  granted = λ k p. ((k == role) && (p == permission)) || r.granted k p;
+  granted = λ k p. if (k == role) && (p == permission) then has else r.granted k p;
   parent = r.parent;
 }
 
--- the roles after a role was given a parent
-abbrev pub with_parent : Roles → ℕ → ℕ → Roles
+-- the roles after a role was given a parent, or lost its parent (None)
+abbrev pub with_parent : Roles → ℕ → Option ℕ → Roles
 with_parent r role parent = record {
   count = r.count;
   permissions = r.permissions;
   granted = r.granted;
-  parent = λ k. if k == role then Some parent else r.parent k;
+  parent = λ k. if k == role then parent else r.parent k;
 }
 
 -- the answer to a request
 abbrev pub answer_to : Roles → Request → Answer
-answer_to r (Grant role permission) = if may_grant r role permission then Done else Refused
+answer_to r (Grant role permission) = if are_there r role permission then Done else Refused
+answer_to r (Revoke role permission) = if are_there r role permission then Done else Refused
 answer_to r (Inherit role parent) = if may_inherit r role parent then Done else Refused
+answer_to r (ClearParent role) = if nat_lt role r.count then Done else Refused
 
 -- the roles after the request
 abbrev pub roles_after : Roles → Request → Roles
-roles_after r (Grant role permission) = if may_grant r role permission
-    then with_granted r role permission
+roles_after r (Grant role permission) = if are_there r role permission
+    then with_granted r role permission true
+    else r
+roles_after r (Revoke role permission) = if are_there r role permission
+    then with_granted r role permission false
     else r
 roles_after r (Inherit role parent) = if may_inherit r role parent
-    then with_parent r role parent
+    then with_parent r role (Some parent)
     else r
+roles_after r (ClearParent role) = if nat_lt role r.count then with_parent r role None else r
 
 -- the answers to a list of requests
 unfoldable pub request_answers : Roles → List Request → List Answer

@@ -13,6 +13,8 @@
 //! roles.allows(3, 7);               // true
 //! roles.allows(2, 7);               // false
 //! roles.inherit(0, 3);              // Err(Refused): 3 is not below 0
+//! roles.clear_parent(3);            // Ok(()): role 3 no longer allows 7
+//! roles.revoke(0, 7);               // Ok(()): role 0 no longer allows 7
 //! ```
 #![tactic(auto)]
 
@@ -38,8 +40,13 @@ use std::fmt;
 pub enum Request {
     /// Grants a permission to a role. The first number is the role, the second the permission.
     Grant(u32, u32),
+    /// Takes back a permission that was granted to the role itself. The first number is the role,
+    /// the second the permission.
+    Revoke(u32, u32),
     /// Gives a parent to a role. The first number is the role, the second the parent.
     Inherit(u32, u32),
+    /// Takes the parent of a role away. The number is the role.
+    ClearParent(u32),
 }
 
 /// The answer to a request.
@@ -153,6 +160,63 @@ impl<B: BitsOwned, const N: usize> Roles<B, N> {
         Ok(())
     }
 
+    /// Takes back a permission that was granted to the role itself. A permission that was not
+    /// granted stays so. The role still allows the permission if its parent does. Each role keeps
+    /// every other permission, and none allows more than before. If there is no such role or
+    /// permission, the call changes nothing and returns `Err`.
+    pub fn revoke(&mut self, role: u32, permission: u32) -> Result<(), Refused>
+        ensures done { IsOk result ↔ ((role < N) × (permission < B.type_capacity)) }
+        ensures revoked { let after = roles_of N B.type_capacity (set_in B.Shape B.Order.Endian)
+            self.new.granted self.new.parents in
+            IsOk result → after.granted role permission ≡ false }
+        ensures other_roles { let before = roles_of N B.type_capacity
+            (set_in B.Shape B.Order.Endian) self.old.granted self.old.parents in
+            let after = roles_of N B.type_capacity (set_in B.Shape B.Order.Endian)
+            self.new.granted self.new.parents in (other more : ℕ) → other ≢ role
+            → after.granted other more ≡ before.granted other more }
+        ensures other_permissions { let before = roles_of N B.type_capacity
+            (set_in B.Shape B.Order.Endian) self.old.granted self.old.parents in
+            let after = roles_of N B.type_capacity (set_in B.Shape B.Order.Endian)
+            self.new.granted self.new.parents in (other more : ℕ) → more ≢ permission
+            → after.granted other more ≡ before.granted other more }
+        ensures allows { let before = roles_of N B.type_capacity
+            (set_in B.Shape B.Order.Endian) self.old.granted self.old.parents in
+            let after = roles_of N B.type_capacity (set_in B.Shape B.Order.Endian)
+            self.new.granted self.new.parents in IsOk result → Allows after role permission
+            ↔ ((parent : ℕ) × (before.parent role ≡ Some parent)
+            × Allows before parent permission) }
+        ensures still_allows { let before = roles_of N B.type_capacity
+            (set_in B.Shape B.Order.Endian) self.old.granted self.old.parents in
+            let after = roles_of N B.type_capacity (set_in B.Shape B.Order.Endian)
+            self.new.granted self.new.parents in (other allowed : ℕ) → allowed ≢ permission
+            → Allows before other allowed → Allows after other allowed }
+        ensures others_allow { let before = roles_of N B.type_capacity
+            (set_in B.Shape B.Order.Endian) self.old.granted self.old.parents in
+            let after = roles_of N B.type_capacity (set_in B.Shape B.Order.Endian)
+            self.new.granted self.new.parents in (other allowed : ℕ)
+            → (LeadsTo before other role → ⊥)
+            → Allows after other allowed ↔ Allows before other allowed }
+        ensures none_gains { let before = roles_of N B.type_capacity
+            (set_in B.Shape B.Order.Endian) self.old.granted self.old.parents in
+            let after = roles_of N B.type_capacity (set_in B.Shape B.Order.Endian)
+            self.new.granted self.new.parents in (other allowed : ℕ)
+            → Allows after other allowed → Allows before other allowed }
+        ensures parents { self.new.parents ≡ self.old.parents }
+        ensures answer { (if is_ok result then Answer.Done else Answer.Refused)
+            ≡ answer_to (roles_of N B.type_capacity (set_in B.Shape B.Order.Endian)
+            self.old.granted self.old.parents) (Request.Revoke role permission) }
+        ensures roles { roles_of N B.type_capacity (set_in B.Shape B.Order.Endian)
+            self.new.granted self.new.parents
+            ≡ roles_after (roles_of N B.type_capacity (set_in B.Shape B.Order.Endian)
+            self.old.granted self.old.parents) (Request.Revoke role permission) }
+    {
+        if permission >= B::bits() || role as usize >= N {
+            return Err(Refused);
+        }
+        self.granted[role as usize].clear_bit(permission);
+        Ok(())
+    }
+
     /// Gives a role a parent, in place of any parent that it had. Afterwards the role allows what
     /// it was granted and what the new parent allows; it loses what only the old parent allowed. If
     /// there is no such role, or `parent` is not less than `role`, the call changes nothing and
@@ -198,6 +262,50 @@ impl<B: BitsOwned, const N: usize> Roles<B, N> {
             return Err(Refused);
         }
         self.parents[role as usize] = Some(parent);
+        Ok(())
+    }
+
+    /// Takes the parent of a role away. A role without a parent stays so. Afterwards the role
+    /// allows just what it was granted, and no role allows more than before. If there is no such
+    /// role, the call changes nothing and returns `Err`.
+    pub fn clear_parent(&mut self, role: u32) -> Result<(), Refused>
+        ensures done { IsOk result ↔ role < N }
+        ensures parent { let after = roles_of N B.type_capacity (set_in B.Shape B.Order.Endian)
+            self.new.granted self.new.parents in IsOk result → after.parent role ≡ None }
+        ensures others { let before = roles_of N B.type_capacity
+            (set_in B.Shape B.Order.Endian) self.old.granted self.old.parents in
+            let after = roles_of N B.type_capacity (set_in B.Shape B.Order.Endian)
+            self.new.granted self.new.parents in (other : ℕ) → other ≢ role
+            → after.parent other ≡ before.parent other }
+        ensures allows { let before = roles_of N B.type_capacity
+            (set_in B.Shape B.Order.Endian) self.old.granted self.old.parents in
+            let after = roles_of N B.type_capacity (set_in B.Shape B.Order.Endian)
+            self.new.granted self.new.parents in (allowed : ℕ) → IsOk result
+            → Allows after role allowed ↔ (before.granted role allowed ≡ true) }
+        ensures others_allow { let before = roles_of N B.type_capacity
+            (set_in B.Shape B.Order.Endian) self.old.granted self.old.parents in
+            let after = roles_of N B.type_capacity (set_in B.Shape B.Order.Endian)
+            self.new.granted self.new.parents in (other allowed : ℕ)
+            → (LeadsTo before other role → ⊥)
+            → Allows after other allowed ↔ Allows before other allowed }
+        ensures none_gains { let before = roles_of N B.type_capacity
+            (set_in B.Shape B.Order.Endian) self.old.granted self.old.parents in
+            let after = roles_of N B.type_capacity (set_in B.Shape B.Order.Endian)
+            self.new.granted self.new.parents in (other allowed : ℕ)
+            → Allows after other allowed → Allows before other allowed }
+        ensures granted { self.new.granted ≡ self.old.granted }
+        ensures answer { (if is_ok result then Answer.Done else Answer.Refused)
+            ≡ answer_to (roles_of N B.type_capacity (set_in B.Shape B.Order.Endian)
+            self.old.granted self.old.parents) (Request.ClearParent role) }
+        ensures roles { roles_of N B.type_capacity (set_in B.Shape B.Order.Endian)
+            self.new.granted self.new.parents
+            ≡ roles_after (roles_of N B.type_capacity (set_in B.Shape B.Order.Endian)
+            self.old.granted self.old.parents) (Request.ClearParent role) }
+    {
+        if role as usize >= N {
+            return Err(Refused);
+        }
+        self.parents[role as usize] = None;
         Ok(())
     }
 
@@ -280,7 +388,9 @@ impl<B: BitsOwned, const N: usize> Roles<B, N> {
     {
         let done = match request {
             Request::Grant(role, permission) => self.grant(role, permission),
+            Request::Revoke(role, permission) => self.revoke(role, permission),
             Request::Inherit(role, parent) => self.inherit(role, parent),
+            Request::ClearParent(role) => self.clear_parent(role),
         };
         match done {
             Ok(()) => Answer::Done,

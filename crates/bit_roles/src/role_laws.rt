@@ -13,12 +13,15 @@ ghost use Rattle.bit_roles.specs.RoleLaws.{InheritsWhatTheParentAllowed};
 ghost use Rattle.bit_roles.specs.RoleLaws.{InheritsReplaceWhatWasInherited};
 ghost use Rattle.bit_roles.specs.RoleLaws.{InheritsChangeOnlyWhatIsInherited};
 ghost use Rattle.bit_roles.specs.RoleLaws.{InheritingChangesOnlyDescendants};
-ghost use Rattle.bit_roles.specs.RoleLaws.{GrantsAreThoseAskedFor, GrantingTakesNothingAway};
+ghost use Rattle.bit_roles.specs.RoleLaws.{GrantsAreThoseKept, GrantingTakesNothingAway};
+ghost use Rattle.bit_roles.specs.RoleLaws.{RevokesTakeJustTheirPermission};
+ghost use Rattle.bit_roles.specs.RoleLaws.{ClearingAParentTakesWhatWasInherited};
 ghost use Rattle.bit_roles.specs.RoleLaws.{ParentsAreThoseLastGiven, ParentsStayIfNoneIsGiven};
 ghost use Rattle.bit_roles.specs.RoleLaws.{ParentsStayLesser, NoChainComesBack};
 
 /// States that a request is answered by `Done` exactly if it is possible: there is its role, and a
-/// `Grant` names a permission that exists, an `Inherit` a parent that is less than the role.
+/// `Grant` or `Revoke` names a permission that exists, an `Inherit` a parent that is less than the
+/// role.
 pub fn done_exactly_if_possible()
     ensures { DoneExactlyIfPossible }
 {}
@@ -45,10 +48,10 @@ pub fn allows_own_and_parents()
     ensures { AllowsOwnAndParents }
 {}
 
-/// States that after a list of requests a role has just the permissions that it was granted before
-/// the list and those that the list grants it.
-pub fn grants_are_those_asked_for()
-    ensures { GrantsAreThoseAskedFor }
+/// States that after a list of requests a role has a permission exactly if it was granted and kept:
+/// granted before the list and not taken back, or granted by a request and not taken back since.
+pub fn grants_are_those_kept()
+    ensures { GrantsAreThoseKept }
 {}
 
 /// States that a role which allows a permission still allows it after any grant.
@@ -65,6 +68,12 @@ pub fn nothing_is_allowed_at_first()
 /// permission of the grant if the role is that of the grant or a chain of parents leads to it.
 pub fn grants_give_just_their_permission()
     ensures { GrantsGiveJustTheirPermission }
+{}
+
+/// States what each role allows after a `Revoke` that is done: what it or a role of its chain of
+/// parents still holds. Only the role of the `Revoke` itself lost the permission.
+pub fn revokes_take_just_their_permission()
+    ensures { RevokesTakeJustTheirPermission }
 {}
 
 /// States what a role allows after an `Inherit` for it that is done, if each parent has a lesser
@@ -94,14 +103,21 @@ pub fn inheriting_changes_only_descendants()
     ensures { InheritingChangesOnlyDescendants }
 {}
 
+/// States what each role allows after a `ClearParent` that is done: what it allowed before by a
+/// chain of parents that does not go past the role that lost its parent.
+pub fn clearing_a_parent_takes_what_was_inherited()
+    ensures { ClearingAParentTakesWhatWasInherited }
+{}
+
 /// States that after a list of requests a role has the parent that the list gave it last: that of
-/// the last `Inherit` for the role which was answered by `Done`.
+/// the last `Inherit` for the role which was answered by `Done`. If the last such request is a
+/// `ClearParent`, the role has no parent.
 pub fn parents_are_those_last_given()
     ensures { ParentsAreThoseLastGiven }
 {}
 
-/// States that a role to which a list of requests gives no parent has the parent that it had before
-/// the list.
+/// States that a role has the parent that it had before a list of requests if the list neither
+/// gives it a parent nor takes its parent away.
 pub fn parents_stay_if_none_is_given()
     ensures { ParentsStayIfNoneIsGiven }
 {}
@@ -117,10 +133,10 @@ pub fn no_chain_comes_back()
     ensures { NoChainComesBack }
 {}
 
-/// States that calls of `grant` and `inherit` in any sequence are a history exactly if they answer
-/// as the machine does on the list of their requests, and leave its last state. The clauses of each
-/// call say what it answers and which roles it leaves, so such calls are a history. So each law of
-/// lists of requests holds for them too.
+/// States that calls of `grant`, `revoke`, `inherit` and `clear_parent` in any sequence are a
+/// history exactly if they answer as the machine does on the list of their requests, and leave its
+/// last state. The clauses of each call say what it answers and which roles it leaves, so such
+/// calls are a history. So each law of lists of requests holds for them too.
 pub fn calls_answer_as_lists()
     ensures { CallsAnswerAsLists answer_to roles_after request_answers final_roles }
 {}

@@ -1,10 +1,10 @@
-use Rattle.std.proofs.Common.{◌<◌, get_or, length, ap, sym, subst, ◌∙◌, inr, refl, arith}
+use Rattle.std.proofs.Common.{◌<◌, true, get_or, length, ap, sym, subst, ◌∙◌, inr, refl, arith}
 use Rattle.std.proofs.lemmas.Bool.{lt-ltb}
 use Rattle.std.proofs.lemmas.Option.{slice_get-get_or}
 use Rattle.bittle.specs.Values.{set_in}
 use Rattle.bit_roles.specs.Roles.{Allows, roles_of}
 use Rattle.bit_roles.proofs.RoleLaws.{allows_granted, grant_gives, now_granted, other_roles_keep, other_permissions_keep, stays_allowed, others_gain_nothing}
-use Rattle.bit_roles.proofs.Rows.{row_granted}
+use Rattle.bit_roles.proofs.Rows.{row_changed, set_put_in}
 use Rattle.bit_roles.proofs.Roles.grant.Goals as goal
 
 pub returns-clause-roles : goal.returns-clause-roles
@@ -14,18 +14,19 @@ returns-clause-roles g c =
     let capacity = g.met.B.FixedCapacity.one_capacity set in
     let bits = c.bits.ensures.value c.args.self.now.fits in
     let inside : c.args.role < length granted = omega arith in
-    row_granted g.row.N _ (set_in g.B.Shape g.B.Order.Endian) granted c.args.self.now.parents
-    c.args.role c.args.permission set c.set_bit.new.self inside
+    row_changed g.row.N _ (set_in g.B.Shape g.B.Order.Endian) granted c.args.self.now.parents
+    c.args.role c.args.permission true set c.set_bit.new.self inside
     (slice_get-get_or granted c.args.role c.index-self-role.result inside) capacity
     (omega (arith, bits, c.if-permission-bits.false)) (omega (arith, c.if-role.false))
-    c.set_bit.ensures.set
+    (set_put_in _ _ c.args.permission (omega (arith, capacity, bits, c.if-permission-bits.false))
+    c.set_bit.ensures.set)
 
 pub returns-clause-granted : goal.returns-clause-granted
 returns-clause-granted g c done =
     let bits = c.bits.ensures.value c.args.self.now.fits in
     ap (λ roles. roles.granted c.args.role c.args.permission) (returns-clause-roles g c)
     ∙ now_granted (roles_of g.row.N g.B.Shape.type_capacity (set_in g.B.Shape g.B.Order.Endian)
-    c.args.self.now.granted c.args.self.now.parents) c.args.role c.args.permission
+    c.args.self.now.granted c.args.self.now.parents) c.args.role c.args.permission true
     (omega (arith, c.if-role.false)) (omega (arith, bits, c.if-permission-bits.false))
 
 pub returns-clause-other_roles : goal.returns-clause-other_roles
@@ -33,14 +34,14 @@ returns-clause-other_roles g c other more apart =
     ap (λ roles. roles.granted other more) (returns-clause-roles g c)
     ∙ other_roles_keep (roles_of g.row.N g.B.Shape.type_capacity
     (set_in g.B.Shape g.B.Order.Endian) c.args.self.now.granted c.args.self.now.parents)
-    c.args.role c.args.permission other more apart
+    c.args.role c.args.permission true other more apart
 
 pub returns-clause-other_permissions : goal.returns-clause-other_permissions
 returns-clause-other_permissions g c other more apart =
     ap (λ roles. roles.granted other more) (returns-clause-roles g c)
     ∙ other_permissions_keep (roles_of g.row.N g.B.Shape.type_capacity
     (set_in g.B.Shape g.B.Order.Endian) c.args.self.now.granted c.args.self.now.parents)
-    c.args.role c.args.permission other more apart
+    c.args.role c.args.permission true other more apart
 
 pub returns-clause-allows : goal.returns-clause-allows
 returns-clause-allows g c done =

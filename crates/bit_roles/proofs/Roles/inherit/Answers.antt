@@ -1,9 +1,10 @@
-use Rattle.std.proofs.Common.{◌<◌, length, inr, ap, sym, subst, ◌∙◌, arith}
+use Rattle.std.proofs.Common.{◌<◌, Some, length, inr, ap, sym, subst, ◌∙◌, arith}
+use Rattle.std.proofs.lemmas.Option.{same_Some}
 use Rattle.bittle.specs.Values.{set_in}
-use Rattle.bit_roles.specs.Roles.{Allows, ancestor, roles_of}
+use Rattle.bit_roles.specs.Roles.{Allows, ancestor, may_inherit, roles_of}
 use Rattle.bit_roles.specs.declared.Request.TheVariants.{Inherit}
-use Rattle.bit_roles.proofs.RoleLaws.{done_exactly, inherit_gives, other_parents_keep, others_allow_same}
-use Rattle.bit_roles.proofs.Rows.{lesser_written, parent_written, row_inherits}
+use Rattle.bit_roles.proofs.RoleLaws.{done_exactly, less_both, inherit_gives, other_parents_keep, others_allow_same}
+use Rattle.bit_roles.proofs.Rows.{lesser_written, parent_written, row_with_parent}
 use Rattle.bit_roles.proofs.Roles.inherit.Goals as goal
 
 pub invariant_of-self : goal.invariant_of-self
@@ -12,30 +13,30 @@ invariant_of-self g c =
     let inside : c.args.role < length old.parents = omega arith in
     record {
       fits = old.fits;
-      lesser = lesser_written old.parents c.args.role c.args.parent inside
-          (omega arith) old.lesser;
+      lesser = lesser_written old.parents c.args.role (Some c.args.parent) inside
+          (λ p is. omega (arith, same_Some c.args.parent p is)) old.lesser;
     }
 
 pub returns-clause-parent : goal.returns-clause-parent
 returns-clause-parent g c done =
     let parents = c.args.self.now.parents in
     let inside : c.args.role < length parents = omega arith in
-    parent_written parents c.args.role c.args.parent inside
+    parent_written parents c.args.role (Some c.args.parent) inside
 
 pub returns-clause-roles : goal.returns-clause-roles
 returns-clause-roles g c =
     let parents = c.args.self.now.parents in
     let inside : c.args.role < length parents = omega arith in
-    row_inherits parents c.args.role c.args.parent inside g.row.N _
-    (set_in g.B.Shape g.B.Order.Endian) c.args.self.now.granted
-    (omega arith) (omega arith)
+    row_with_parent parents c.args.role (Some c.args.parent) inside g.row.N _
+    (set_in g.B.Shape g.B.Order.Endian) c.args.self.now.granted _
+    (less_both c.args.role g.row.N c.args.parent c.args.role (omega arith, omega arith))
 
 pub returns-clause-others : goal.returns-clause-others
 returns-clause-others g c other apart =
     ap (λ roles. roles.parent other) (returns-clause-roles g c)
     ∙ other_parents_keep (roles_of g.row.N g.B.Shape.type_capacity
     (set_in g.B.Shape g.B.Order.Endian) c.args.self.now.granted c.args.self.now.parents)
-    c.args.role c.args.parent other apart
+    _ c.args.role (Some c.args.parent) other apart
 
 pub returns-clause-allows : goal.returns-clause-allows
 returns-clause-allows g c allowed done was =
@@ -59,7 +60,10 @@ returns-clause-allows_only g c allowed done is =
 pub returns-clause-others_allow : goal.returns-clause-others_allow
 returns-clause-others_allow g c other allowed apart =
     let same = returns-clause-roles g c in
-    let keep = others_allow_same _ c.args.role c.args.parent other allowed apart in (
+    let roles = roles_of g.row.N g.B.Shape.type_capacity (set_in g.B.Shape g.B.Order.Endian)
+    c.args.self.now.granted c.args.self.now.parents in
+    let keep = others_allow_same roles (may_inherit roles c.args.role c.args.parent) c.args.role
+    (Some c.args.parent) other allowed apart in (
       λ a. keep.0 (subst (λ r. Allows r other allowed) same a),
       λ a. subst (λ r. Allows r other allowed) (sym same) (keep.1 a),
     )
