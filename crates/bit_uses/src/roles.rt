@@ -197,26 +197,110 @@ pub fn denies_what_is_not_granted<B: BitsOwned, const N: usize>(
         || !roles.allows(role, permission)
 }
 
-/// Grants a permission to a role, then gives the role a parent, and returns whether each was done.
-/// The clause says that the two calls, with what they return, are a history of calls: they lead
-/// from the roles before to the roles afterwards.
-pub fn grant_and_inherit<B: BitsOwned, const N: usize>(
+/// Takes a permission back from a role, and returns whether the role does not allow it afterwards if
+/// it has no parent. The result is always `true`, also if the call is refused.
+pub fn revoke_and_ask_allowed<B: BitsOwned, const N: usize>(
+    roles: &mut Roles<B, N>,
+    role: u32,
+    permission: u32,
+) -> bool
+    ensures { result ≡ true }
+{
+    match roles.revoke(role, permission) {
+        Ok(()) => roles.parent(role).is_some() || !roles.allows(role, permission),
+        Err(Refused) => true,
+    }
+}
+
+/// Takes a permission back from a role, and returns whether `other` still allows another permission
+/// that it allowed before. The result is always `true`, also if both permissions are the same.
+pub fn revoke_and_ask_still_allowed<B: BitsOwned, const N: usize>(
+    roles: &mut Roles<B, N>,
+    role: u32,
+    permission: u32,
+    other: u32,
+    allowed: u32,
+) -> bool
+    ensures { result ≡ true }
+{
+    let before = roles.allows(other, allowed);
+    let _done = roles.revoke(role, permission);
+    if before && allowed != permission {
+        roles.allows(other, allowed)
+    } else {
+        true
+    }
+}
+
+/// Takes a permission back from a role, and returns whether `other` allowed before what it allows
+/// afterwards. The result is always `true`: no role gains a permission.
+pub fn revoke_and_ask_gained<B: BitsOwned, const N: usize>(
+    roles: &mut Roles<B, N>,
+    role: u32,
+    permission: u32,
+    other: u32,
+    allowed: u32,
+) -> bool
+    ensures { result ≡ true }
+{
+    let before = roles.allows(other, allowed);
+    let _done = roles.revoke(role, permission);
+    before || !roles.allows(other, allowed)
+}
+
+/// Takes the parent of a role away, and returns whether the role then allows a permission exactly
+/// if the permission was granted to it. The result is always `true`, also if the call is refused.
+pub fn clear_parent_and_ask_allowed<B: BitsOwned, const N: usize>(
+    roles: &mut Roles<B, N>,
+    role: u32,
+    permission: u32,
+) -> bool
+    ensures { result ≡ true }
+{
+    match roles.clear_parent(role) {
+        Ok(()) => roles.allows(role, permission) == roles.is_granted(role, permission),
+        Err(Refused) => true,
+    }
+}
+
+/// Takes the parent of a role away, and returns whether `other` has the parent that it had before.
+/// The result is always `true`, also if both roles are the same.
+pub fn clear_parent_and_ask_another<B: BitsOwned, const N: usize>(
+    roles: &mut Roles<B, N>,
+    role: u32,
+    other: u32,
+) -> bool
+    ensures { result ≡ true }
+{
+    let before = roles.parent(other);
+    let _done = roles.clear_parent(role);
+    other == role || roles.parent(other) == before
+}
+
+/// Grants a permission to a role and gives the role a parent, then takes both away, and returns
+/// whether each was done. The clause says that the four calls, with what they return, are a history
+/// of calls: they lead from the roles before to the roles afterwards.
+pub fn give_and_take_away<B: BitsOwned, const N: usize>(
     roles: &mut Roles<B, N>,
     role: u32,
     permission: u32,
     parent: u32,
-) -> (bool, bool)
+) -> (bool, bool, bool, bool)
     ensures { IsHistory answer_to roles_after
         (roles_of N B.type_capacity (set_in B.Shape B.Order.Endian)
         roles.old.granted roles.old.parents)
         ((Request.Grant role permission, if result.0 then Answer.Done else Answer.Refused)
         ∷ (Request.Inherit role parent, if result.1 then Answer.Done else Answer.Refused)
+        ∷ (Request.Revoke role permission, if result.2 then Answer.Done else Answer.Refused)
+        ∷ (Request.ClearParent role, if result.3 then Answer.Done else Answer.Refused)
         ∷ []) (roles_of N B.type_capacity (set_in B.Shape B.Order.Endian)
         roles.new.granted roles.new.parents) }
 {
     let granted = roles.grant(role, permission).is_ok();
     let inherited = roles.inherit(role, parent).is_ok();
-    (granted, inherited)
+    let revoked = roles.revoke(role, permission).is_ok();
+    let cleared = roles.clear_parent(role).is_ok();
+    (granted, inherited, revoked, cleared)
 }
 
 /// Asks that a role inherit from itself. Returns `true`, since the request is refused.
