@@ -197,8 +197,8 @@ pub fn denies_what_is_not_granted<B: BitsOwned, const N: usize>(
         || !roles.allows(role, permission)
 }
 
-/// Takes a permission back from a role, and returns whether the role does not allow it afterwards if
-/// it has no parent. The result is always `true`, also if the call is refused.
+/// Takes a permission back from a role, and returns whether the role does not allow it afterwards,
+/// or has a parent. The result is always `true`, also if the call is refused.
 pub fn revoke_and_ask_allowed<B: BitsOwned, const N: usize>(
     roles: &mut Roles<B, N>,
     role: u32,

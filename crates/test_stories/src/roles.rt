@@ -58,16 +58,21 @@ fn permissions_in_the_other_order(rt: HostRuntime) {
     same!(rt; answers, wanted);
     same!(rt; (roles.allows(0, 7), roles.allows(2, 7), roles.allows(2, 1)), (true, true, true));
     same!(rt; (roles.allows(0, 1), roles.allows(1, 7), roles.allows(3, 7)), (false, false, false));
+    same!(rt; (roles.revoke(2, 1), roles.revoke(2, 16)), (Ok(()), Err(Refused)));
+    same!(rt; (roles.allows(2, 1), roles.allows(2, 7)), (false, true));
 }
 
 #[test]
 fn no_roles_and_no_permissions(rt: HostRuntime) {
     let mut none = Roles::<u8, 0>::new();
     same!(rt; (none.grant(0, 0), none.inherit(0, 0)), (Err(Refused), Err(Refused)));
+    same!(rt; (none.revoke(0, 0), none.clear_parent(0)), (Err(Refused), Err(Refused)));
     holds!(rt; !none.allows(0, 0) && none.parent(0).is_none());
     let mut bare = Roles::<[u8; 0], 2>::new();
     same!(rt; (bare.grant(0, 0), bare.inherit(1, 0)), (Err(Refused), Ok(())));
     holds!(rt; !bare.allows(1, 0) && bare.parent(1) == Some(0));
+    same!(rt; (bare.revoke(1, 0), bare.clear_parent(1)), (Err(Refused), Ok(())));
+    holds!(rt; bare.parent(1).is_none());
 }
 
 #[test]
@@ -84,6 +89,66 @@ fn a_parent_in_place_of_another(rt: HostRuntime) -> Result<(), Fail> {
     let text = format!(in rt.alloc(); "{Refused}")?;
     same!(rt; text.as_str(), "no such role or permission, or the parent is not less than the role");
     Ok(())
+}
+
+#[test]
+fn a_permission_that_is_taken_back(rt: HostRuntime) {
+    let mut roles = Roles::<u8, 3>::new();
+    same!(rt; (roles.grant(0, 3), roles.grant(1, 3)), (Ok(()), Ok(())));
+    same!(rt; (roles.grant(1, 5), roles.inherit(1, 0)), (Ok(()), Ok(())));
+    same!(rt; roles.inherit(2, 1), Ok(()));
+    // Role 1 still inherits permission 3 from role 0.
+    same!(rt; (roles.revoke(1, 3), roles.granted(1).copied()), (Ok(()), Some(0b10_0000)));
+    same!(rt; (roles.allows(0, 3), roles.allows(1, 3), roles.allows(2, 3)), (true, true, true));
+    same!(rt; (roles.revoke(0, 3), roles.granted(0).copied()), (Ok(()), Some(0)));
+    same!(rt; (roles.allows(0, 3), roles.allows(1, 3), roles.allows(2, 3)), (false, false, false));
+    // A permission that was not granted to the role itself: nothing changes.
+    same!(rt; (roles.revoke(0, 3), roles.revoke(2, 5)), (Ok(()), Ok(())));
+    same!(rt; (roles.allows(2, 5), roles.is_granted(2, 5)), (true, false));
+    // There is no role 3, and there are no permissions 8 and 13. 13 does not wrap to 5.
+    same!(rt; (roles.revoke(3, 5), roles.revoke(1, 8)), (Err(Refused), Err(Refused)));
+    same!(rt; (roles.revoke(1, 13), roles.granted(1).copied()), (Err(Refused), Some(0b10_0000)));
+    same!(rt; (roles.parent(1), roles.parent(2)), (Some(0), Some(1)));
+}
+
+#[test]
+fn a_parent_that_is_taken_away(rt: HostRuntime) {
+    let mut roles = Roles::<u8, 3>::new();
+    same!(rt; (roles.grant(0, 3), roles.grant(1, 5)), (Ok(()), Ok(())));
+    same!(rt; (roles.inherit(1, 0), roles.inherit(2, 1)), (Ok(()), Ok(())));
+    holds!(rt; roles.allows(1, 3) && roles.allows(2, 3));
+    same!(rt; (roles.clear_parent(1), roles.parent(1), roles.parent(2)), (Ok(()), None, Some(1)));
+    same!(rt; (roles.allows(0, 3), roles.allows(1, 3), roles.allows(2, 3)), (true, false, false));
+    holds!(rt; roles.allows(1, 5) && roles.allows(2, 5));
+    // Roles without a parent, and a role that does not exist.
+    same!(rt; (roles.clear_parent(0), roles.clear_parent(1)), (Ok(()), Ok(())));
+    same!(rt; (roles.clear_parent(3), roles.parent(2)), (Err(Refused), Some(1)));
+}
+
+#[test]
+fn a_list_that_gives_and_takes_away(rt: HostRuntime) {
+    let mut roles = Roles::<u8, 3>::new();
+    let requests = [
+        Request::Grant(0, 1),
+        Request::Grant(0, 2),
+        Request::Inherit(2, 0),
+        Request::Revoke(0, 1),
+        Request::Revoke(0, 9),
+        Request::ClearParent(3),
+        Request::Inherit(1, 0),
+        Request::ClearParent(2),
+    ];
+    let mut answers = [Answer::Refused; 8];
+    roles.serve(&requests, &mut answers);
+    let mut wanted = [Answer::Done; 8];
+    wanted[4] = Answer::Refused;
+    wanted[5] = Answer::Refused;
+    same!(rt; answers, wanted);
+    same!(rt; (roles.granted(0).copied(), roles.parent(1)), (Some(0b100), Some(0)));
+    same!(rt; (roles.allows(1, 2), roles.allows(2, 2), roles.parent(2)), (true, false, None));
+    // What was taken can be given again.
+    same!(rt; (roles.grant(0, 1), roles.inherit(2, 1)), (Ok(()), Ok(())));
+    holds!(rt; roles.allows(2, 1) && roles.allows(2, 2));
 }
 
 #[test]
@@ -111,22 +176,23 @@ fn ask_tables(
     parents: &mut [Option<u32>; 6],
 ) -> Answer {
     match request {
-        Request::Grant(role, permission) => {
-            if role < 6 && permission < 32 {
-                granted[role as usize][permission as usize] = true;
-                Answer::Done
-            } else {
-                Answer::Refused
-            }
+        Request::Grant(role, permission) if role < 6 && permission < 32 => {
+            granted[role as usize][permission as usize] = true;
+            Answer::Done
         }
-        Request::Inherit(role, parent) => {
-            if role < 6 && parent < role {
-                parents[role as usize] = Some(parent);
-                Answer::Done
-            } else {
-                Answer::Refused
-            }
+        Request::Revoke(role, permission) if role < 6 && permission < 32 => {
+            granted[role as usize][permission as usize] = false;
+            Answer::Done
         }
+        Request::Inherit(role, parent) if role < 6 && parent < role => {
+            parents[role as usize] = Some(parent);
+            Answer::Done
+        }
+        Request::ClearParent(role) if role < 6 => {
+            parents[role as usize] = None;
+            Answer::Done
+        }
+        _ => Answer::Refused,
     }
 }
 
@@ -160,10 +226,11 @@ fn allowed_by<B: BitsOwned>(roles: &Roles<B, 6>) -> [[bool; 32]; 6] {
 // less than the role.
 fn draw_request(state: &mut u32) -> Request {
     let (role, number) = (draw(state) % 7, draw(state));
-    if number % 2 == 0 {
-        Request::Grant(role, number / 2 % 34)
-    } else {
-        Request::Inherit(role, number / 2 % 7)
+    match number % 4 {
+        0 => Request::Grant(role, number / 4 % 34),
+        1 => Request::Revoke(role, number / 4 % 34),
+        2 => Request::Inherit(role, number / 4 % 7),
+        _ => Request::ClearParent(role),
     }
 }
 
@@ -173,7 +240,7 @@ fn are_as_tables<B: BitsOwned>(roles: &mut Roles<B, 6>) -> bool {
     let mut state = 5;
     let (mut granted, mut parents) = ([[false; 32]; 6], [None; 6]);
     let mut is_same = true;
-    for _ in 0..60 {
+    for _ in 0..1000 {
         let request = draw_request(&mut state);
         let mut answers = [Answer::Done];
         roles.serve(&[request], &mut answers);

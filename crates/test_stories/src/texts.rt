@@ -49,7 +49,9 @@ fn answers_of_a_queue_are_named_with_their_task(rt: HostRuntime) -> Result<(), F
 #[test]
 fn requests_are_named_with_their_role(rt: HostRuntime) -> Result<(), Fail> {
     reads(&rt, rt.alloc(), &Request::Grant(3, 17), "Grant(3, 17)")?;
+    reads(&rt, rt.alloc(), &Request::Revoke(3, 17), "Revoke(3, 17)")?;
     reads(&rt, rt.alloc(), &Request::Inherit(3, 0), "Inherit(3, 0)")?;
+    reads(&rt, rt.alloc(), &Request::ClearParent(3), "ClearParent(3)")?;
     Ok(())
 }
 
