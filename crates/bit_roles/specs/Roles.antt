@@ -9,8 +9,8 @@ use Rattle.bit_roles.specs.declared.Request.TheVariants.{Grant, Revoke, Inherit,
 use Rattle.bit_roles.specs.declared.Answer.{Answer}
 use Rattle.bit_roles.specs.declared.Answer.TheVariants.{Done, Refused}
 
--- how many roles and how many permissions there are, whether a role was granted a permission, and
--- the parent of each role
+-- how many roles and how many permissions there are, whether a role was granted a permission that
+-- was not taken back since, and the parent of each role
 pub record Roles : Type 0 where
   pub count : ℕ
   pub permissions : ℕ

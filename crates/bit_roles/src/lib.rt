@@ -1,8 +1,9 @@
 //! Roles with permissions. A role inherits the permissions of its parent.
 //!
 //! A role is a number below `N`, and a permission is a number below the capacity of the set. A role
-//! allows the permissions that it was granted and those that its parent allows. A parent has a
-//! lesser number than its role, so no chain of parents leads back to the role at which it began.
+//! allows the permissions that it was granted and those that its parent allows. A permission that
+//! was taken back counts as not granted. A parent has a lesser number than its role, so no chain of
+//! parents leads back to the role at which it began.
 //!
 //! ```rust
 //! use bit_roles::Roles;
@@ -76,7 +77,8 @@ impl fmt::Display for Refused {
 
 impl Error for Refused {}
 
-/// `N` roles. Each has a set of the permissions that it was granted, and a parent or none.
+/// `N` roles. Each has a set of the permissions that it was granted and that were not taken back,
+/// and a parent or none.
 ///
 /// The type guarantees that `B` fits, and that each parent has a lesser number than its role.
 #[derive(Drop)]
@@ -309,8 +311,8 @@ impl<B: BitsOwned, const N: usize> Roles<B, N> {
         Ok(())
     }
 
-    /// Returns whether a permission was granted to the role itself. It returns `false` if there is
-    /// no such role or permission.
+    /// Returns whether a permission was granted to the role itself, and not taken back since. It
+    /// returns `false` if there is no such role or permission.
     pub fn is_granted(&self, role: u32, permission: u32) -> bool
         ensures value { let roles = roles_of N B.type_capacity (set_in B.Shape B.Order.Endian)
             self.now.granted self.now.parents in result ≡ roles.granted role permission }
