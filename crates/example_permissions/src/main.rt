@@ -2,8 +2,9 @@
 //!
 //! A permission is an index below 32. A role is a number, and its parent has a smaller one. What is
 //! proved is what `bit_roles` promises: a role allows a permission exactly if a chain of parents
-//! leads to a role that was granted the permission. A grant gives its permission to its role and to
-//! those that inherit from it, to no other role, and takes nothing away.
+//! leads to a role that was granted the permission and kept it. A grant gives its permission to its
+//! role and to those that inherit from it, to no other role, and takes nothing away. If a role
+//! loses a permission, each other permission stays, and no role gains one.
 #![tactic(auto)]
 
 use bit_roles::{Refused, Roles};
@@ -52,5 +53,10 @@ fn main(rt: HostRuntime) -> io::Result<()> {
     )?;
     let is_refused = roles.inherit(0, 3).is_err();
     println!(rt; "a guest that inherits from an owner is refused: {is_refused}")?;
-    Ok(())
+    let is_done = roles.revoke(1, 1).is_ok();
+    println!(rt; "a writer loses the permission to write: {is_done}")?;
+    println!(rt;
+        "an owner, who inherited it, still writes: {}",
+        roles.allows(3, 1)
+    )
 }
