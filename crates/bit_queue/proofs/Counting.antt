@@ -57,7 +57,11 @@ counts_with c i s = by (cases_lt i c) (cases_Bool (s i))
         let is = lt-ltb i c l in
         rw is (omega (arith, size_added (record { capacity = c; has = s }) i l none))
     by (inr g) _ =
-        omega (arith, counts_fewer c (λ k. (k == i) || s k) s (λ k l. was k (λ e. absurd (omega arith))))
+        omega (
+          arith,
+          counts_fewer c (λ k. (k == i) || s k) s
+              (λ k l. was k (λ e. absurd (omega arith))),
+        )
     by (inl l) (inl some) =
         omega (arith, counts_fewer c (λ k. (k == i) || s k) s (λ k m. was k (λ e. some)))
 

@@ -138,7 +138,8 @@ module _ (s t : PlainSet) (task : ℕ) (h : task < s.capacity) (after : t ≡ wi
       ∙ ap (λ b. nat_lt other s.capacity && (b || s.has other)) (ne_eqb other task apart)
 
 -- the set without a task that runs
-module _ (s t : PlainSet) (task : ℕ) (h : task < s.capacity) (after : t ≡ without_index s task) where
+module _
+    (s t : PlainSet) (task : ℕ) (h : task < s.capacity) (after : t ≡ without_index s task) where
   pub is_taken_out : t ≡ without_task s task
   is_taken_out = after ∙ without_index_within s task h
 

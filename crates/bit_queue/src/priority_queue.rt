@@ -139,8 +139,8 @@ impl<B: BitsOwned> PriorityQueue<B> {
     }
 
     /// Returns the most urgent ready task, which [`next`](PriorityQueue::next) would take. If no
-    /// task is ready, it returns `None`; with capacity 0 this is always so. The call reads the words
-    /// up to the one with the bit of the task.
+    /// task is ready, it returns `None`; with capacity 0 this is always so. The call reads the
+    /// words up to the one with the bit of the task.
     pub fn peek(&self) -> Option<u32>
         ensures task { result ≡ most_urgent (set_in B.Shape B.Order.Endian self.now.ready) }
         ensures urgent { let tasks = set_in B.Shape B.Order.Endian self.now.ready in

@@ -107,8 +107,8 @@ pub fn tasks_run_within_as_many_steps()
 
 /// States that calls of `wake`, `remove` and `next` in any sequence are a history exactly if they
 /// answer as the machine does on the list of their events, and leave its last state. The clauses of
-/// each call say what it answers and which round it leaves, so such calls are a history. So each law
-/// of lists of events holds for them too.
+/// each call say what it answers and which round it leaves, so such calls are a history. So each
+/// law of lists of events holds for them too.
 pub fn calls_answer_as_lists()
     ensures { CallsAnswerAsLists answer_in_turn round_after answers_in_turn final_round }
 {}

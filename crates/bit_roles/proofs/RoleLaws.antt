@@ -82,8 +82,8 @@ pub no_way_back : (r : Roles) (role n : ℕ) → HasLesserParents r →
     ancestor r role (suc n) ≡ Some role → ⊥
 no_way_back r role n lesser e = omega (arith, chain_goes_down r role (suc n) role lesser e)
 
--- after a role is given a parent with a lesser number or none, each parent still has a lesser number
--- than its role
+-- after a role is given a parent with a lesser number or none, each parent still has a lesser
+-- number than its role
 pub parent_stays_lesser : (r : Roles) (role : ℕ) (parent : Option ℕ) →
     ((p : ℕ) → parent ≡ Some p → p < role) → HasLesserParents r →
     HasLesserParents (with_parent r role parent)
@@ -341,8 +341,8 @@ grant_gives r role permission other allowed = by (are_there r role permission)
           new.1.0,
           role,
           chain new.1.0 ∙ new.1.1,
-          ap (λ b. cond b true (r.granted role allowed)) (and_from (role == role) (allowed == permission) (eq-eqb role role refl)
-              (eq-eqb allowed permission new.0)),
+          ap (λ b. cond b true (r.granted role allowed)) (and_from (role == role)
+              (allowed == permission) (eq-eqb role role refl) (eq-eqb allowed permission new.0)),
         )
       ],
     )

@@ -104,9 +104,9 @@ InheritsWhatTheParentAllowed =
     → Allows (roles_after r (Inherit role parent)) role allowed
     ↔ ((r.granted role allowed ≡ true) ⊎ Allows r parent allowed)
 
--- if each parent has a lesser number than its role, after an `Inherit` that is done each role allows
--- what it allowed before by a chain of parents that does not go past the role that inherits, and,
--- if its chain leads there, what the new parent allowed before
+-- if each parent has a lesser number than its role, after an `Inherit` that is done each role
+-- allows what it allowed before by a chain of parents that does not go past the role that inherits,
+-- and, if its chain leads there, what the new parent allowed before
 abbrev pub InheritsReplaceWhatWasInherited : Type 0
 InheritsReplaceWhatWasInherited =
     (r : Roles) (role parent other allowed : ℕ)

@@ -104,7 +104,8 @@ final_roles r requests = fold roles_after r requests
 -- whether a set of permissions exists and has the permission as a member
 abbrev pub has_permission : {X : Type 0} → (X → PlainSet) → Option X → ℕ → Bool
 has_permission set None permission = false
-has_permission set (Some x) permission = nat_lt permission (set x).capacity && (set x).has permission
+has_permission set (Some x) permission =
+    nat_lt permission (set x).capacity && (set x).has permission
 
 -- the parent in an entry of a row, or None if there is no such entry
 abbrev pub parent_in : Option (Option ℕ) → Option ℕ

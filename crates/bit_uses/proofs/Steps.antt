@@ -49,7 +49,8 @@ module _ {X Y : Type 0} (s : PlainSet) (change : X → Y → X) (before : List X
           let here = ap (slice_get (set now e (change a b))) same
           ∙ slice_get_set_same now e (change a b) within in
           let stood = is.later e is.visits.0.0 in
-          let first : a ≡ x = same_Some _ _ (sym at ∙ stood ∙ ap (slice_get before) (sym same) ∙ was) in
+          let first : a ≡ x =
+          same_Some _ _ (sym at ∙ stood ∙ ap (slice_get before) (sym same) ∙ was) in
           let second : b ≡ y = same_Some _ _ (sym there ∙ ap (slice_get other) (sym same) ∙ own) in
           here ∙ ap (λ v. Some (change v b)) first ∙ ap (λ v. Some (change x v)) second
       | inr n ↦ apart k n ∙ elim (cases_lt k is.from) [

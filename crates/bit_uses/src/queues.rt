@@ -123,7 +123,7 @@ pub fn wake_and_count<B: BitsOwned>(queue: &mut PriorityQueue<B>, task: u32) -> 
     }
 }
 
-/// Wakes `task` and removes it. Returns whether the removal succeeds, and leaves the task not ready.
+/// Wakes `task` and removes it. Returns whether the removal succeeds and leaves the task not ready.
 /// If the queue has no such task, returns whether the removal fails. The result is always `true`.
 pub fn wake_and_remove<B: BitsOwned>(queue: &mut PriorityQueue<B>, task: u32) -> bool
     ensures { result ≡ true }

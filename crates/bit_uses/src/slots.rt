@@ -151,8 +151,9 @@ pub fn insert_thrice(value: u64) -> (bool, bool, bool)
     (true, true, slots.insert(value).is_ok())
 }
 
-/// Puts a value into the least free slot of `row`, and returns its key, or `None` if no slot is free.
-/// The lender of `row` sees the value: its key finds it in a table that is made over `row` later.
+/// Puts a value into the least free slot of `row`, and returns its key, or `None` if no slot is
+/// free. The lender of `row` sees the value: its key finds it in a table that is made over `row`
+/// later.
 pub fn fill_lent(row: &mut [Slot<u64>], value: u64) -> Option<Key>
     requires { length row.old ≤ 64 }
     ensures { IfSome result (λ key.
@@ -193,8 +194,8 @@ pub fn remove_and_update<B: BitsOwned>(slots: &mut Slots<u64, B>, key: Key, othe
 }
 
 /// Removes `key`, inserts a value, and returns whether `key` finds a value then. The result is
-/// `Some(false)`: a removed key is not given again. Returns `None` if `key` finds no value to remove,
-/// or no slot is free.
+/// `Some(false)`: a removed key is not given again. Returns `None` if `key` finds no value to
+/// remove, or no slot is free.
 pub fn remove_and_insert<V: Drop, B: BitsOwned>(
     slots: &mut Slots<V, B>,
     key: Key,
