@@ -45,4 +45,5 @@ returns-in-None-clause-some g c =
     let s : PlainSet = set_in g.B.Shape g.B.Order.Endian c.args.self.now.ready in
     let capacity = g.met.B.FixedCapacity.one_capacity c.args.self.now.ready in
     found_counts s _ c.first_one_in-in-None.result
-    (IsNextInTurn (round_at s c.args.self.now.turn)) (sym capacity) (λ k next. (next.within, next.is_ready)) (returns-in-None-clause-next g c)
+    (IsNextInTurn (round_at s c.args.self.now.turn)) (sym capacity)
+    (λ k next. (next.within, next.is_ready)) (returns-in-None-clause-next g c)
