@@ -32,9 +32,14 @@ pub trait Endian: Drop {
     /// LittleEndian::place::<u8>(9);                       // 6
     /// ```
     #[doc(hidden)]
-    fn place<T: Word>(index: u32) -> u32
+    #[inline]
+    final fn place<T: Word>(index: u32) -> u32
         ensures place { result ≡ orders.place mirrored T.width (index % T.width) }
-        ensures within { result < T.width };
+        ensures within { result < T.width }
+    {
+        let place = index % T::width();
+        if Self::is_mirrored() { T::width() - 1 - place } else { place }
+    }
 
     /// Returns the word in which only the bit at `index` is set. An index at or past the width of
     /// the word wraps.
@@ -43,14 +48,28 @@ pub trait Endian: Drop {
     /// LittleEndian::mask::<u8>(9);                        // 0b0100_0000
     /// ```
     #[doc(hidden)]
-    fn mask<T: Word>(index: u32) -> T
-        ensures { word_mirrored T.Word mirrored result ≡ with_index (empty_set T.width) index };
+    #[inline]
+    final fn mask<T: Word>(index: u32) -> T
+        ensures { word_mirrored T.Word mirrored result ≡ with_index (empty_set T.width) index }
+    {
+        let place = index % T::width();
+        if Self::is_mirrored() { T::one_below_top(place) } else { T::one_at(place) }
+    }
 
     /// Returns the word in which just the bits at `index` and at every greater index are set.
     #[doc(hidden)]
-    fn from_index<T: Word>(index: u32) -> T
+    #[inline]
+    final fn from_index<T: Word>(index: u32) -> T
         requires { index < T.width }
-        ensures { word_mirrored T.Word mirrored result ≡ full_set_from T.width index };
+        ensures { word_mirrored T.Word mirrored result ≡ full_set_from T.width index }
+    {
+        if Self::is_mirrored() {
+            let place = T::width() - 1 - index;
+            T::low(place).or(T::one_at(place))
+        } else {
+            T::low(index).not()
+        }
+    }
 
     /// Returns the least index of a set bit, or the width if no bit is set.
     ///
@@ -58,8 +77,14 @@ pub trait Endian: Drop {
     /// BigEndian::zeros(0b0001_0000u8);                    // 4
     /// ```
     #[doc(hidden)]
-    fn zeros<T: Word>(value: T) -> u32
-        ensures { IsLeastMember (word_mirrored T.Word mirrored value) result };
+    #[inline]
+    final fn zeros<T: Word>(value: T) -> u32
+        ensures { IsLeastMember (word_mirrored T.Word mirrored value) result }
+    {
+        // Index 0 is the leftmost bit if the order is mirrored, else the rightmost. So the least
+        // index of a set bit is the number of unset bits on that side of it.
+        if Self::is_mirrored() { value.leading_zeros() } else { value.trailing_zeros() }
+    }
 
     /// Returns the least index of an unset bit, or the width if every bit is set.
     ///
@@ -81,8 +106,13 @@ pub trait Endian: Drop {
     /// LittleEndian::zeros_rev(0b0001_0000u8);             // 4
     /// ```
     #[doc(hidden)]
-    fn zeros_rev<T: Word>(value: T) -> u32
-        ensures { IsGreatestMember (word_mirrored T.Word mirrored value) result };
+    #[inline]
+    final fn zeros_rev<T: Word>(value: T) -> u32
+        ensures { IsGreatestMember (word_mirrored T.Word mirrored value) result }
+    {
+        // The last index is the rightmost bit if the order is mirrored, else the leftmost.
+        if Self::is_mirrored() { value.trailing_zeros() } else { value.leading_zeros() }
+    }
 
     /// Returns how far the greatest index of an unset bit lies below the last index, or the width
     /// if every bit is set.
@@ -130,35 +160,6 @@ impl Endian for BigEndian {
     fn is_mirrored() -> bool {
         false
     }
-
-    #[inline]
-    fn place<T: Word>(index: u32) -> u32 {
-        index % T::width()
-    }
-
-    #[inline]
-    fn mask<T: Word>(index: u32) -> T {
-        T::one_at(index % T::width())
-    }
-
-    #[inline]
-    fn from_index<T: Word>(index: u32) -> T {
-        T::low(index).not()
-    }
-
-    #[inline]
-    fn zeros<T: Word>(value: T) -> u32 {
-        // Index 0 is the rightmost bit. So the least index of a set bit is the number of unset bits
-        // to the right of that bit.
-        value.trailing_zeros()
-    }
-
-    #[inline]
-    fn zeros_rev<T: Word>(value: T) -> u32 {
-        // Index 0 is the rightmost bit. So the unset bits of greater index than every set bit lie
-        // to the left of all set bits.
-        value.leading_zeros()
-    }
 }
 
 impl Endian for LittleEndian {
@@ -169,35 +170,5 @@ impl Endian for LittleEndian {
     #[inline]
     fn is_mirrored() -> bool {
         true
-    }
-
-    #[inline]
-    fn place<T: Word>(index: u32) -> u32 {
-        T::width() - 1 - index % T::width()
-    }
-
-    #[inline]
-    fn mask<T: Word>(index: u32) -> T {
-        T::one_below_top(index % T::width())
-    }
-
-    #[inline]
-    fn from_index<T: Word>(index: u32) -> T {
-        let place = T::width() - 1 - index;
-        T::low(place).or(T::one_at(place))
-    }
-
-    #[inline]
-    fn zeros<T: Word>(value: T) -> u32 {
-        // Index 0 is the leftmost bit. So the least index of a set bit is the number of unset bits
-        // to the left of that bit.
-        value.leading_zeros()
-    }
-
-    #[inline]
-    fn zeros_rev<T: Word>(value: T) -> u32 {
-        // Index 0 is the leftmost bit. So the unset bits of greater index than every set bit are
-        // those to the right of all set bits.
-        value.trailing_zeros()
     }
 }
