@@ -258,7 +258,7 @@ impl<T: Shape, E: Endian> Shape for Set<T, E> {
 
     ghost loan = { λ s. T.loan s.bits };
 
-    fn seal(_: Sealed) {}
+    const SEAL: Sealed = Sealed {};
 }
 
 impl<T: ReadWords, U: Endian> ReadWords for Set<T, U> {
@@ -270,15 +270,9 @@ impl<T: ReadWords, U: Endian> ReadWords for Set<T, U> {
 
     ghost none_past = { λ s. T.none_past s.bits };
 
-    #[inline]
-    fn is_fixed() -> bool {
-        T::is_fixed()
-    }
+    const IS_FIXED: bool = T::IS_FIXED;
 
-    #[inline(always)]
-    fn may_pass_over() -> bool {
-        T::may_pass_over()
-    }
+    const MAY_PASS_OVER: bool = T::MAY_PASS_OVER;
 
     #[inline]
     fn capacity(&self) -> u32 {

@@ -30,7 +30,7 @@ impl<T: Shape, const N: usize> Shape for [T; N] {
 
     ghost type_capacity = { N * T.type_capacity };
 
-    fn seal(_: Sealed) {}
+    const SEAL: Sealed = Sealed {};
 }
 
 // Changes the array `elements` to the result of the operation `O` on `elements` and `others`. If
@@ -77,10 +77,7 @@ impl<T: ReadWords + FixedCapacity, const N: usize> ReadWords for [T; N] {
 
     ghost none_past = { λ v i h. row_has-past N T.type_capacity (λ x. (T.big x).has) v i h };
 
-    #[inline]
-    fn is_fixed() -> bool {
-        true
-    }
+    const IS_FIXED: bool = true;
 
     #[inline]
     fn capacity(&self) -> u32 {
@@ -92,10 +89,7 @@ impl<T: ReadWords + FixedCapacity, const N: usize> ReadWords for [T; N] {
         row::leaf_word::<T>(self, k)
     }
 
-    #[inline(always)]
-    fn may_pass_over() -> bool {
-        T::may_pass_over()
-    }
+    const MAY_PASS_OVER: bool = T::MAY_PASS_OVER;
 
     #[inline(always)]
     fn pass_over<K: Kind, F: End>(&self, low: usize, high: usize) -> usize {

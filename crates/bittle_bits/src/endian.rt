@@ -15,10 +15,10 @@ pub trait Endian: Drop {
     // Whether index 0 names the bit of greatest weight, as in little-endian order.
     ghost mirrored: { Bool };
 
-    /// Seals the trait. A crate that depends only on `bittle` cannot name the parameter's type, so
-    /// it cannot implement the trait.
+    /// Seals the trait. A crate that depends only on `bittle` cannot name the constant's type, so it
+    /// cannot implement the trait.
     #[doc(hidden)]
-    fn seal(_: Sealed);
+    const SEAL: Sealed;
 
     /// Returns `true` if index 0 names the bit of greatest weight, as in little-endian order.
     #[doc(hidden)]
@@ -38,7 +38,11 @@ pub trait Endian: Drop {
         ensures within { result < T.width }
     {
         let place = index % T::width();
-        if Self::is_mirrored() { T::width() - 1 - place } else { place }
+        if Self::is_mirrored() {
+            T::width() - 1 - place
+        } else {
+            place
+        }
     }
 
     /// Returns the word in which only the bit at `index` is set. An index at or past the width of
@@ -53,7 +57,11 @@ pub trait Endian: Drop {
         ensures { word_mirrored T.Word mirrored result ≡ with_index (empty_set T.width) index }
     {
         let place = index % T::width();
-        if Self::is_mirrored() { T::one_below_top(place) } else { T::one_at(place) }
+        if Self::is_mirrored() {
+            T::one_below_top(place)
+        } else {
+            T::one_at(place)
+        }
     }
 
     /// Returns the word in which just the bits at `index` and at every greater index are set.
@@ -81,9 +89,14 @@ pub trait Endian: Drop {
     final fn zeros<T: Word>(value: T) -> u32
         ensures { IsLeastMember (word_mirrored T.Word mirrored value) result }
     {
-        // Index 0 is the leftmost bit if the order is mirrored, else the rightmost. So the least
-        // index of a set bit is the number of unset bits on that side of it.
-        if Self::is_mirrored() { value.leading_zeros() } else { value.trailing_zeros() }
+        // The least index of a set bit is the number of unset bits on the side of index 0.
+        if Self::is_mirrored() {
+            // Index 0 is the leftmost bit.
+            value.leading_zeros()
+        } else {
+            // Index 0 is the rightmost bit.
+            value.trailing_zeros()
+        }
     }
 
     /// Returns the least index of an unset bit, or the width if every bit is set.
@@ -110,8 +123,13 @@ pub trait Endian: Drop {
     final fn zeros_rev<T: Word>(value: T) -> u32
         ensures { IsGreatestMember (word_mirrored T.Word mirrored value) result }
     {
-        // The last index is the rightmost bit if the order is mirrored, else the leftmost.
-        if Self::is_mirrored() { value.trailing_zeros() } else { value.leading_zeros() }
+        if Self::is_mirrored() {
+            // The last index is the rightmost bit.
+            value.trailing_zeros()
+        } else {
+            // The last index is the leftmost bit.
+            value.leading_zeros()
+        }
     }
 
     /// Returns how far the greatest index of an unset bit lies below the last index, or the width
@@ -154,7 +172,7 @@ pub type DefaultEndian = BigEndian;
 impl Endian for BigEndian {
     ghost mirrored = { false };
 
-    fn seal(_: Sealed) {}
+    const SEAL: Sealed = Sealed {};
 
     #[inline]
     fn is_mirrored() -> bool {
@@ -165,7 +183,7 @@ impl Endian for BigEndian {
 impl Endian for LittleEndian {
     ghost mirrored = { true };
 
-    fn seal(_: Sealed) {}
+    const SEAL: Sealed = Sealed {};
 
     #[inline]
     fn is_mirrored() -> bool {

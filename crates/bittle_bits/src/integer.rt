@@ -35,10 +35,7 @@ impl<W: Integer> ReadWords for W {
 
     ghost none_past = { λ v. none_past_word _ _ _ (W.is_word.big_is_pattern v) };
 
-    #[inline]
-    fn is_fixed() -> bool {
-        true
-    }
+    const IS_FIXED: bool = true;
 
     #[inline]
     fn capacity(&self) -> u32 {

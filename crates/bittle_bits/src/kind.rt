@@ -14,10 +14,10 @@ pub trait Kind: Drop {
 
     const ONES: bool;
 
-    /// Seals the trait. A crate that depends only on `bittle` cannot name the parameter's type, so
-    /// it cannot implement the trait.
+    /// Seals the trait. A crate that depends only on `bittle` cannot name the constant's type, so it
+    /// cannot implement the trait.
     #[doc(hidden)]
-    fn seal(_: Sealed);
+    const SEAL: Sealed;
 }
 
 /// The kind of the set bits.
@@ -33,7 +33,7 @@ impl Kind for Ones {
 
     const ONES: bool = true;
 
-    fn seal(_: Sealed) {}
+    const SEAL: Sealed = Sealed {};
 }
 
 impl Kind for Zeros {
@@ -41,7 +41,7 @@ impl Kind for Zeros {
 
     const ONES: bool = false;
 
-    fn seal(_: Sealed) {}
+    const SEAL: Sealed = Sealed {};
 }
 
 /// Returns a word whose set bits are the bits of the kind `K` in `word`. For `Ones` it is `word`

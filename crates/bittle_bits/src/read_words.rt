@@ -19,26 +19,20 @@ use crate::word::Word;
 /// Searches, counts and iterators read sets through this trait. So each of them is written once,
 /// for all shapes and for all views of sets.
 pub trait ReadWords: Drop + Shape {
-    /// Returns `true` only if all values of the type have the same number of words.
+    /// Whether all values of the type have the same number of words. It may be `false` even then.
     ///
     /// It affects speed only, so it has no contract. It decides how an iterator begins, and whether
     /// a comparison of two sets begins with their first words alone.
     #[doc(hidden)]
-    #[inline]
-    fn is_fixed() -> bool {
-        false
-    }
+    const IS_FIXED: bool = false;
 
-    /// Returns `true` if `pass_over` of a value of the type may skip words.
+    /// Whether `pass_over` of a value of the type may skip words.
     ///
     /// It affects speed only, so it has no contract. It decides whether an array, a slice or a view
     /// of two sets calls `pass_over` of its parts, and whether a search of whole words reads them
     /// one by one or four at a time.
     #[doc(hidden)]
-    #[inline(always)]
-    fn may_pass_over() -> bool {
-        false
-    }
+    const MAY_PASS_OVER: bool = false;
 
     /// Returns how many bits the set has, or `u32::MAX` if its shape does not fit.
     ///
@@ -63,8 +57,8 @@ pub trait ReadWords: Drop + Shape {
     /// that it does not skip, or `low` if it skips all.
     ///
     /// It affects speed only. A set may skip words if it knows, without reading them, that they
-    /// have no bit of this kind. Most shapes skip no word. A type whose values skip words returns
-    /// `true` from `may_pass_over`.
+    /// have no bit of this kind. Most shapes skip no word. In a type whose values skip words,
+    /// `MAY_PASS_OVER` is `true`.
     #[doc(hidden)]
     #[inline(always)]
     fn pass_over<K: Kind, N: End>(&self, low: usize, high: usize) -> usize

@@ -25,7 +25,7 @@ impl<'a, T: Shape> Shape for &'a [T] {
 
     ghost big = { λ v. row_set (length v.now) T.type_capacity T.big v.now };
 
-    fn seal(_: Sealed) {}
+    const SEAL: Sealed = Sealed {};
 }
 
 impl<'a, T: ReadWords + FixedCapacity> ReadWords for &'a [T] {
@@ -48,10 +48,7 @@ impl<'a, T: ReadWords + FixedCapacity> ReadWords for &'a [T] {
         row::leaf_word::<T>(self, k)
     }
 
-    #[inline(always)]
-    fn may_pass_over() -> bool {
-        T::may_pass_over()
-    }
+    const MAY_PASS_OVER: bool = T::MAY_PASS_OVER;
 
     #[inline(always)]
     fn pass_over<K: Kind, N: End>(&self, low: usize, high: usize) -> usize {
@@ -94,7 +91,7 @@ impl<'a, T: Shape> Shape for &'a mut [T] {
 
     ghost loan = { λ v. v.ghost_name ∷ [] };
 
-    fn seal(_: Sealed) {}
+    const SEAL: Sealed = Sealed {};
 }
 
 impl<'a, T: ReadWords + FixedCapacity> ReadWords for &'a mut [T] {
@@ -117,10 +114,7 @@ impl<'a, T: ReadWords + FixedCapacity> ReadWords for &'a mut [T] {
         row::leaf_word::<T>(self, k)
     }
 
-    #[inline(always)]
-    fn may_pass_over() -> bool {
-        T::may_pass_over()
-    }
+    const MAY_PASS_OVER: bool = T::MAY_PASS_OVER;
 
     #[inline(always)]
     fn pass_over<K: Kind, N: End>(&self, low: usize, high: usize) -> usize {

@@ -32,7 +32,7 @@ fn first_alike<A: Bits, B: Bits, E: Endian, O: FirstOperation>(
         MatchOption result (NoneDecidedBelow O.decide ours theirs end)
         (IsFirstDecided O.decide ours theirs) }
 {
-    if A::may_pass_over() || B::may_pass_over() {
+    if A::MAY_PASS_OVER || B::MAY_PASS_OVER {
         let view = OfBoth::<'_, A, B, E, E, O>::of_first(left, right);
         return end_in::<OfBoth<'_, A, B, E, E, O>, E, Ones, Front>(&view, 0, end);
     }

@@ -22,7 +22,7 @@ impl<K: Kind> Kind for Others<K> {
 
     const ONES: bool = !K::ONES;
 
-    fn seal(_: Sealed) {}
+    const SEAL: Sealed = Sealed {};
 }
 
 /// The greatest length, in words, of a run that is searched for word by word. The search for a

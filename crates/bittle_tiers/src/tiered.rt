@@ -70,7 +70,7 @@ impl<B: Shape, S: Shape, K: Kind> Shape for Tiered<B, S, K> {
 
     ghost type_capacity = { B.type_capacity };
 
-    fn seal(_: Sealed) {}
+    const SEAL: Sealed = Sealed {};
 }
 
 impl<B: BitsOwned, S: BitsOwned, K: Kind> Tiered<B, S, K> {
@@ -194,10 +194,7 @@ impl<B: ReadWords + FixedCapacity, S: ReadWords + FixedCapacity, K: Kind> ReadWo
 
     ghost none_past = { λ t. B.none_past t.map };
 
-    #[inline(always)]
-    fn may_pass_over() -> bool {
-        true
-    }
+    const MAY_PASS_OVER: bool = true;
 
     #[inline]
     fn capacity(&self) -> u32 {

@@ -61,7 +61,7 @@ impl<'a> Shape for Probe<'a> {
 
     ghost type_capacity = { 4 * 8 };
 
-    fn seal(_: Sealed) {}
+    const SEAL: Sealed = Sealed {};
 }
 
 impl<'a> ReadWords for Probe<'a> {
@@ -73,9 +73,7 @@ impl<'a> ReadWords for Probe<'a> {
 
     ghost none_past = { λ p i h. row_has-past 4 8 (λ x. (bit_set 8 x).has) p.bytes i h };
 
-    fn is_fixed() -> bool {
-        true
-    }
+    const IS_FIXED: bool = true;
 
     fn capacity(&self) -> u32 {
         self.bytes.bits_capacity()

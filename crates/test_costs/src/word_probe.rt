@@ -52,7 +52,7 @@ impl<'a> Shape for WordProbe<'a> {
 
     ghost type_capacity = { 64 };
 
-    fn seal(_: Sealed) {}
+    const SEAL: Sealed = Sealed {};
 }
 
 impl<'a> ReadWords for WordProbe<'a> {
@@ -64,9 +64,7 @@ impl<'a> ReadWords for WordProbe<'a> {
 
     ghost none_past = { λ p i h. bit_has-past 64 p.word i h };
 
-    fn is_fixed() -> bool {
-        true
-    }
+    const IS_FIXED: bool = true;
 
     fn capacity(&self) -> u32 {
         self.word.bits_capacity()

@@ -73,7 +73,7 @@ fn first_difference<A: Bits, B: Bits, E: Endian>(
     requires { AreCompared A.Shape B.Shape left.now right.now capacity other }
     ensures { TellsFirstDifferenceOf A.Shape B.Shape E.Endian left.now right.now result }
 {
-    if A::is_fixed() {
+    if A::IS_FIXED {
         return first_difference_by_words::<A, B, E>(left, right, capacity, other);
     }
     let common = capacity.min(other);

@@ -22,7 +22,7 @@ impl Shape for u128 {
 
     ghost type_capacity = { 128 };
 
-    fn seal(_: Sealed) {}
+    const SEAL: Sealed = Sealed {};
 }
 
 impl Integer for u128 {
@@ -78,7 +78,7 @@ impl Shape for i128 {
 
     ghost type_capacity = { 128 };
 
-    fn seal(_: Sealed) {}
+    const SEAL: Sealed = Sealed {};
 }
 
 impl Integer for i128 {

@@ -22,7 +22,7 @@ impl Shape for u16 {
 
     ghost type_capacity = { 16 };
 
-    fn seal(_: Sealed) {}
+    const SEAL: Sealed = Sealed {};
 }
 
 impl Integer for u16 {
@@ -78,7 +78,7 @@ impl Shape for i16 {
 
     ghost type_capacity = { 16 };
 
-    fn seal(_: Sealed) {}
+    const SEAL: Sealed = Sealed {};
 }
 
 impl Integer for i16 {

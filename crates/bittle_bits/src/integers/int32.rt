@@ -22,7 +22,7 @@ impl Shape for u32 {
 
     ghost type_capacity = { 32 };
 
-    fn seal(_: Sealed) {}
+    const SEAL: Sealed = Sealed {};
 }
 
 impl Integer for u32 {
@@ -78,7 +78,7 @@ impl Shape for i32 {
 
     ghost type_capacity = { 32 };
 
-    fn seal(_: Sealed) {}
+    const SEAL: Sealed = Sealed {};
 }
 
 impl Integer for i32 {

@@ -22,7 +22,7 @@ impl Shape for u64 {
 
     ghost type_capacity = { 64 };
 
-    fn seal(_: Sealed) {}
+    const SEAL: Sealed = Sealed {};
 }
 
 impl Integer for u64 {
@@ -78,7 +78,7 @@ impl Shape for i64 {
 
     ghost type_capacity = { 64 };
 
-    fn seal(_: Sealed) {}
+    const SEAL: Sealed = Sealed {};
 }
 
 impl Integer for i64 {

@@ -22,7 +22,7 @@ impl Shape for u8 {
 
     ghost type_capacity = { 8 };
 
-    fn seal(_: Sealed) {}
+    const SEAL: Sealed = Sealed {};
 }
 
 impl Integer for u8 {
@@ -78,7 +78,7 @@ impl Shape for i8 {
 
     ghost type_capacity = { 8 };
 
-    fn seal(_: Sealed) {}
+    const SEAL: Sealed = Sealed {};
 }
 
 impl Integer for i8 {

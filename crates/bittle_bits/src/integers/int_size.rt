@@ -22,7 +22,7 @@ impl Shape for usize {
 
     ghost type_capacity = { 64 };
 
-    fn seal(_: Sealed) {}
+    const SEAL: Sealed = Sealed {};
 }
 
 impl Integer for usize {
@@ -78,7 +78,7 @@ impl Shape for isize {
 
     ghost type_capacity = { 64 };
 
-    fn seal(_: Sealed) {}
+    const SEAL: Sealed = Sealed {};
 }
 
 impl Integer for isize {

@@ -83,7 +83,7 @@ pub fn first_in_words<B: ReadWords, E: Endian, K: Kind>(bits: &B, words: u32) ->
     ensures { IsFirstIn (kind_in B.Shape E.Endian K.Kind bits.now) 0 (words * B.width) result }
 {
     let low = pass_over::<B, K, Front>(bits, 0, words as usize) as u32;
-    if B::may_pass_over() && low < words {
+    if B::MAY_PASS_OVER && low < words {
         return end_in_words::<B, E, K, Front>(bits, low, words - 1, 0);
     }
     first_by_fours::<B, E, K>(bits, low, words)

@@ -52,7 +52,7 @@ pub fn begin<B: ReadWords, E: Endian, K: Kind>(source: &Source<'_, B>) -> Cursor
         items: Count::new(),
         passed,
     };
-    if !B::is_fixed() || low == high {
+    if !B::IS_FIXED || low == high {
         return at;
     }
     at.buffers.load::<B, K, Front>(source, low);

@@ -39,7 +39,7 @@ impl<'a, A: Shape, B: Shape, O: Operation> Shape for Both<'a, A, B, O> {
 
     ghost big = { λ v. decided_below O.decide v.common (A.big v.left.now) (B.big v.right.now) };
 
-    fn seal(_: Sealed) {}
+    const SEAL: Sealed = Sealed {};
 }
 
 impl<'a, A: ReadWords, B: ReadWords, O: Operation> ReadWords for Both<'a, A, B, O> {

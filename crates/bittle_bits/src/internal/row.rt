@@ -540,7 +540,7 @@ pub fn pass_over<T: ReadWords + FixedCapacity, K: Kind, N: End>(
     ensures { PassesOver N.FRONT T.width (ones_or_zeros K.ONES (row_of T.Shape elements.now)) low
         high result }
 {
-    if !T::may_pass_over() {
+    if !T::MAY_PASS_OVER {
         return words_at_end::<N>(low, high);
     }
     pass_over_elements::<T, K, N>(elements, low, high)

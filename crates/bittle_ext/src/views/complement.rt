@@ -27,7 +27,7 @@ impl<'a, B: Shape> Shape for Complement<'a, B> {
 
     ghost big = { λ v. complement (B.big v.set.now) };
 
-    fn seal(_: Sealed) {}
+    const SEAL: Sealed = Sealed {};
 }
 
 impl<'a, B: Shape> Clone for Complement<'a, B> {
@@ -52,10 +52,7 @@ impl<'a, B: ReadWords> ReadWords for Complement<'a, B> {
 
     ghost none_past = { λ v. none_past_complement (B.big v.set.now) };
 
-    #[inline]
-    fn is_fixed() -> bool {
-        B::is_fixed()
-    }
+    const IS_FIXED: bool = B::IS_FIXED;
 
     #[inline]
     fn capacity(&self) -> u32 {
@@ -67,10 +64,7 @@ impl<'a, B: ReadWords> ReadWords for Complement<'a, B> {
         word_of_kind::<B, Zeros>(self.set, k)
     }
 
-    #[inline(always)]
-    fn may_pass_over() -> bool {
-        B::may_pass_over()
-    }
+    const MAY_PASS_OVER: bool = B::MAY_PASS_OVER;
 
     #[inline(always)]
     fn pass_over<K: Kind, N: End>(&self, low: usize, high: usize) -> usize {

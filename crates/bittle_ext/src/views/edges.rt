@@ -40,7 +40,7 @@ impl<'a, B: Shape, E: Endian, K: Kind> Shape for Edges<'a, B, E, K> {
     ghost big = { λ v. read_back E.mirrored B.width
         (edges K.ONES (set_in B.Shape E.Endian v.set.now)) };
 
-    fn seal(_: Sealed) {}
+    const SEAL: Sealed = Sealed {};
 }
 
 impl<'a, B: Shape, E: Endian, K: Kind> Clone for Edges<'a, B, E, K> {
@@ -66,10 +66,7 @@ impl<'a, B: ReadWords, E: Endian, K: Kind> ReadWords for Edges<'a, B, E, K> {
     ghost none_past = { λ v. none_past_edges K.ONES E.mirrored B.width (B.big v.set.now)
         B.width_positive (B.whole_words v.set.now) (B.none_past v.set.now) };
 
-    #[inline]
-    fn is_fixed() -> bool {
-        B::is_fixed()
-    }
+    const IS_FIXED: bool = B::IS_FIXED;
 
     #[inline]
     fn capacity(&self) -> u32 {
@@ -88,10 +85,7 @@ impl<'a, B: ReadWords, E: Endian, K: Kind> ReadWords for Edges<'a, B, E, K> {
         SymmetricDifference::on_words::<B::LeafWord>(word, moved)
     }
 
-    #[inline(always)]
-    fn may_pass_over() -> bool {
-        B::may_pass_over()
-    }
+    const MAY_PASS_OVER: bool = B::MAY_PASS_OVER;
 
     // A word without a bit of the kind has an edge only if the word before it has such a bit.
     #[inline(always)]

@@ -27,7 +27,7 @@ impl<'a, B: Shape, E: Endian> Shape for InOrderMut<'a, B, E> {
 
     ghost loan = { λ v. v.set.ghost_name ∷ B.loan v.set.now };
 
-    fn seal(_: Sealed) {}
+    const SEAL: Sealed = Sealed {};
 }
 
 impl<'a, B: ReadWords, E: Endian> ReadWords for InOrderMut<'a, B, E> {
@@ -39,10 +39,7 @@ impl<'a, B: ReadWords, E: Endian> ReadWords for InOrderMut<'a, B, E> {
 
     ghost none_past = { λ v. B.none_past v.set.now };
 
-    #[inline]
-    fn is_fixed() -> bool {
-        B::is_fixed()
-    }
+    const IS_FIXED: bool = B::IS_FIXED;
 
     #[inline]
     fn capacity(&self) -> u32 {
@@ -54,10 +51,7 @@ impl<'a, B: ReadWords, E: Endian> ReadWords for InOrderMut<'a, B, E> {
         self.set.nth_leaf_word(k)
     }
 
-    #[inline(always)]
-    fn may_pass_over() -> bool {
-        B::may_pass_over()
-    }
+    const MAY_PASS_OVER: bool = B::MAY_PASS_OVER;
 
     #[inline(always)]
     fn pass_over<K: Kind, N: End>(&self, low: usize, high: usize) -> usize {

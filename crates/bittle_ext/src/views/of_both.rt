@@ -168,7 +168,7 @@ impl<'a, A: Shape, B: Shape, E: Endian, F: Endian, O: Operation, R: Reach> Shape
     ghost big = { λ v. read_back E.mirrored A.width (decided_until O.decide v.end
         (set_in A.Shape E.Endian v.left.now) (set_in B.Shape F.Endian v.right.now)) };
 
-    fn seal(_: Sealed) {}
+    const SEAL: Sealed = Sealed {};
 }
 
 impl<'a, A: Shape, B: Shape, E: Endian, F: Endian, O: Operation, R: Reach> Clone
@@ -198,10 +198,7 @@ impl<'a, A: ReadWords, B: ReadWords, E: Endian, F: Endian, O: ViewOperation, R: 
         (set_in A.Shape E.Endian v.left.now) (set_in B.Shape F.Endian v.right.now) v.end
         A.width_positive v.holds };
 
-    #[inline]
-    fn is_fixed() -> bool {
-        A::is_fixed() && B::is_fixed()
-    }
+    const IS_FIXED: bool = A::IS_FIXED && B::IS_FIXED;
 
     #[inline]
     fn capacity(&self) -> u32 {
@@ -217,14 +214,11 @@ impl<'a, A: ReadWords, B: ReadWords, E: Endian, F: Endian, O: ViewOperation, R: 
         O::on_words::<A::LeafWord>(word_or_empty::<A, R>(self.left, k), theirs)
     }
 
-    #[inline(always)]
-    fn may_pass_over() -> bool {
-        A::may_pass_over() || B::may_pass_over()
-    }
+    const MAY_PASS_OVER: bool = A::MAY_PASS_OVER || B::MAY_PASS_OVER;
 
     #[inline(always)]
     fn pass_over<K: Kind, N: End>(&self, low: usize, high: usize) -> usize {
-        if !K::ONES || !Self::may_pass_over() {
+        if !K::ONES || !Self::MAY_PASS_OVER {
             return if N::FRONT { low } else { high };
         }
         if combines_groups::<A, B, O>() {

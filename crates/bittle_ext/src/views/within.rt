@@ -45,7 +45,7 @@ impl<'a, B: Shape, E: Endian, K: Kind> Shape for KindWithin<'a, B, E, K> {
     ghost big = { λ v. read_back E.mirrored B.width
         (kind_within K.ONES (set_in B.Shape E.Endian v.set.now) v.from v.to) };
 
-    fn seal(_: Sealed) {}
+    const SEAL: Sealed = Sealed {};
 }
 
 impl<'a, B: Shape, E: Endian, K: Kind> Clone for KindWithin<'a, B, E, K> {
@@ -71,10 +71,7 @@ impl<'a, B: ReadWords, E: Endian, K: Kind> ReadWords for KindWithin<'a, B, E, K>
     ghost none_past = { λ v. none_past_within K.ONES E.mirrored B.width (B.big v.set.now) v.from
         v.to B.width_positive (B.whole_words v.set.now) (B.none_past v.set.now) };
 
-    #[inline]
-    fn is_fixed() -> bool {
-        B::is_fixed()
-    }
+    const IS_FIXED: bool = B::IS_FIXED;
 
     #[inline]
     fn capacity(&self) -> u32 {
@@ -98,10 +95,7 @@ impl<'a, B: ReadWords, E: Endian, K: Kind> ReadWords for KindWithin<'a, B, E, K>
         Conjunction::on_words::<B::LeafWord>(range::<B::LeafWord, E>(low, high), word)
     }
 
-    #[inline(always)]
-    fn may_pass_over() -> bool {
-        true
-    }
+    const MAY_PASS_OVER: bool = true;
 
     #[inline]
     fn pass_over<L: Kind, N: End>(&self, low: usize, high: usize) -> usize {

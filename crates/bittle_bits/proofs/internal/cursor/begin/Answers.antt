@@ -43,14 +43,14 @@ none g c =
       c.pass_over-high.ensures.passed,
     ))
 
-pub returns-then-not-is_fixed-clause-starts : goal.returns-then-not-is_fixed-clause-starts
-returns-then-not-is_fixed-clause-starts g c =
-    none g (goal.at.returns-then-not-is_fixed-clause-starts g c).After-new
+pub returns-then-not-IS_FIXED-clause-starts : goal.returns-then-not-IS_FIXED-clause-starts
+returns-then-not-IS_FIXED-clause-starts g c =
+    none g (goal.at.returns-then-not-IS_FIXED-clause-starts g c).After-new
 
-pub returns-then-not-is_fixed-clause-below : goal.returns-then-not-is_fixed-clause-below
-returns-then-not-is_fixed-clause-below g c = ones_or_zeros-below g.K.Kind.ONES
+pub returns-then-not-IS_FIXED-clause-below : goal.returns-then-not-IS_FIXED-clause-below
+returns-then-not-IS_FIXED-clause-below g c = ones_or_zeros-below g.K.Kind.ONES
     (set_in g.B.Shape g.E.Endian c.args.source.now.set.now) _
-    (returns-then-not-is_fixed-clause-starts g c).remaining
+    (returns-then-not-IS_FIXED-clause-starts g c).remaining
 
 pub returns-clause-starts : goal.returns-clause-starts
 returns-clause-starts g c =
