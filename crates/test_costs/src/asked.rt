@@ -73,15 +73,10 @@ impl Asked {
     }
 
     /// Ends the test unless there were `fetches` fetches after the first `before` ones, and `other`
-    /// other calls.
+    /// other calls. It shows both pairs of numbers.
     pub(crate) fn counts(&self, rt: &impl Abort, before: u32, fetches: u32, other: u32) {
-        self.compare(rt, "fetches and other calls", before, (fetches, other));
-    }
-
-    /// Ends the test unless there were `wanted.0` fetches after the first `before` ones, and
-    /// `wanted.1` other calls. It shows `text` and both pairs of numbers.
-    pub(crate) fn compare(&self, rt: &impl Abort, text: &str, before: u32, wanted: (u32, u32)) {
-        end_unless_equal(rt, text, (self.fetched_since(before), self.other()), wanted);
+        let found = (self.fetched_since(before), self.other());
+        end_unless_equal(rt, "fetches and other calls", found, (fetches, other));
     }
 
     /// Returns whether there were at most `words` fetches, and no other calls.

@@ -2,6 +2,8 @@
 //! and bit order, four words of each set are compared at a time. If one of the four decides the
 //! result, they are fetched again up to that word. Other sets are searched in turn, and each search
 //! begins at the bit that was found in the other set.
+//!
+//! The calls of several tests are in one function, since each function pays anew for its types.
 
 ghost use Rattle.bittle.specs.Values.{ShapeFits};
 
@@ -13,14 +15,12 @@ use bittle::{Bits, LittleEndian};
 use bittle_ext::{BitsRelationExt, BitsViewExt};
 use std::process::Abort;
 
-// The pair of sets that is read, and the calls that read it.
+// The pair of sets whose relations are asked for.
 #[derive(Clone, Copy)]
 enum Pair {
     Meet,
     Agree,
     FirstWord,
-    Counted,
-    TwoOrders,
 }
 
 impl Reading for Pair {
@@ -29,34 +29,44 @@ impl Reading for Pair {
         rt: &impl Abort,
         few: &B,
         _most: &B,
-        one: &B,
+        _one: &B,
         none: &B,
         low: &B,
         lower: &B,
         asked: &Asked,
     ) {
         match self {
-            Pair::Meet => relate_those_that_meet(rt, few, few, none, asked),
-            Pair::Agree => relate_those_that_agree(rt, few, few, none, asked),
-            Pair::FirstWord => relate_by_the_first_word(rt, low, lower, asked),
-            Pair::Counted => count_two_sets(rt, few, one, asked),
-            Pair::TwoOrders => relate_in_two_orders(rt, few, few, asked),
+            // Word 7 decides. From each set eight words are fetched, and the last four of them
+            // again.
+            Pair::Meet => {
+                let (left, right) = (few, few);
+                costs!(rt; asked, left.first_common(right), Some(451), 24, 0);
+                costs!(rt; asked, left.intersects(right), true, 24, 0);
+                costs!(rt; asked, left.is_disjoint(right), false, 24, 0);
+                costs!(rt; asked, left.first_alone(none), Some(451), 24, 0);
+                costs!(rt; asked, left.is_subset(none), false, 24, 0);
+                costs!(rt; asked, none.is_superset(left), false, 24, 0);
+            }
+            Pair::Agree => {
+                let (left, right) = (few, few);
+                costs!(rt; asked, left.first_alone(right), None, 24, 0);
+                costs!(rt; asked, left.is_subset(right), true, 24, 0);
+                costs!(rt; asked, left.is_superset(right), true, 24, 0);
+                costs!(rt; asked, left.first_common(none), None, 24, 0);
+                costs!(rt; asked, left.intersects(none), false, 24, 0);
+                costs!(rt; asked, left.is_disjoint(none), true, 24, 0);
+            }
+            Pair::FirstWord => {
+                let (left, right) = (low, lower);
+                costs!(rt; asked, left.first_common(right), Some(0), 10, 0);
+                costs!(rt; asked, right.first_alone(left), Some(1), 10, 0);
+                costs!(rt; asked, right.is_subset(left), false, 10, 0);
+                costs!(rt; asked, left.is_superset(right), false, 10, 0);
+                costs!(rt; asked, left.intersects(right), true, 10, 0);
+                costs!(rt; asked, left.is_disjoint(right), false, 10, 0);
+            }
         }
     }
-}
-
-// Word 7 decides. From each set eight words are fetched, and the last four of them again.
-fn relate_those_that_meet<B: Bits>(rt: &impl Abort, left: &B, right: &B, none: &B, asked: &Asked)
-    requires left { ShapeFits B.Shape left.now }
-    requires right { ShapeFits B.Shape right.now }
-    requires none { ShapeFits B.Shape none.now }
-{
-    costs!(rt; asked, left.first_common(right), Some(451), 24, 0);
-    costs!(rt; asked, left.intersects(right), true, 24, 0);
-    costs!(rt; asked, left.is_disjoint(right), false, 24, 0);
-    costs!(rt; asked, left.first_alone(none), Some(451), 24, 0);
-    costs!(rt; asked, left.is_subset(none), false, 24, 0);
-    costs!(rt; asked, none.is_superset(left), false, 24, 0);
 }
 
 #[test]
@@ -64,34 +74,9 @@ fn relations_of_like_words_fetch_both_up_to_the_four_words_that_decide(rt: HostR
     read_rows(&rt, Pair::Meet);
 }
 
-fn relate_those_that_agree<B: Bits>(rt: &impl Abort, left: &B, right: &B, none: &B, asked: &Asked)
-    requires left { ShapeFits B.Shape left.now }
-    requires right { ShapeFits B.Shape right.now }
-    requires none { ShapeFits B.Shape none.now }
-{
-    costs!(rt; asked, left.first_alone(right), None, 24, 0);
-    costs!(rt; asked, left.is_subset(right), true, 24, 0);
-    costs!(rt; asked, left.is_superset(right), true, 24, 0);
-    costs!(rt; asked, left.first_common(none), None, 24, 0);
-    costs!(rt; asked, left.intersects(none), false, 24, 0);
-    costs!(rt; asked, left.is_disjoint(none), true, 24, 0);
-}
-
 #[test]
 fn relations_of_like_words_that_nothing_decides_fetch_both_once(rt: HostRuntime) {
     read_rows(&rt, Pair::Agree);
-}
-
-fn relate_by_the_first_word<B: Bits>(rt: &impl Abort, left: &B, right: &B, asked: &Asked)
-    requires left { ShapeFits B.Shape left.now }
-    requires right { ShapeFits B.Shape right.now }
-{
-    costs!(rt; asked, left.first_common(right), Some(0), 10, 0);
-    costs!(rt; asked, right.first_alone(left), Some(1), 10, 0);
-    costs!(rt; asked, right.is_subset(left), false, 10, 0);
-    costs!(rt; asked, left.is_superset(right), false, 10, 0);
-    costs!(rt; asked, left.intersects(right), true, 10, 0);
-    costs!(rt; asked, left.is_disjoint(right), false, 10, 0);
 }
 
 #[test]
@@ -99,36 +84,55 @@ fn relations_that_the_first_word_decides_fetch_four_words_of_both_and_it_again(r
     read_rows(&rt, Pair::FirstWord);
 }
 
-// The bits are counted in each word that an operation makes of two words. So `count_ones` of an
-// element is not called.
-fn count_two_sets<B: Bits>(rt: &impl Abort, left: &B, right: &B, asked: &Asked)
-    requires left { ShapeFits B.Shape left.now }
-    requires right { ShapeFits B.Shape right.now }
-{
-    costs!(rt; asked, left.count_common(right), 1, 24, 0);
-    costs!(rt; asked, left.count_alone(right), 1, 24, 0);
-    costs!(rt; asked, left.count_different(right), 1, 24, 0);
+// Other calls on a pair of sets: they count, or read the sets in two orders.
+#[derive(Clone, Copy)]
+enum Other {
+    Counted,
+    TwoOrders,
+}
+
+impl Reading for Other {
+    fn read<B: Bits>(
+        self,
+        rt: &impl Abort,
+        few: &B,
+        _most: &B,
+        one: &B,
+        _none: &B,
+        _low: &B,
+        _lower: &B,
+        asked: &Asked,
+    ) {
+        match self {
+            // The bits are counted in each word that an operation makes of two words. So
+            // `count_ones` of an element is not called.
+            Other::Counted => {
+                let (left, right) = (few, one);
+                costs!(rt; asked, left.count_common(right), 1, 24, 0);
+                costs!(rt; asked, left.count_alone(right), 1, 24, 0);
+                costs!(rt; asked, left.count_different(right), 1, 24, 0);
+            }
+            // In the order `LittleEndian` the members are 451 and 508 too, since the order swaps
+            // bits 3 and 60 of a word. The first search fetches eight words. The second search
+            // begins at 451 and fetches one.
+            Other::TwoOrders => {
+                let (left, right) = (few, few);
+                let view = right.in_order::<LittleEndian>();
+                costs!(rt; asked, left.first_common(&view), Some(451), 9, 0);
+                costs!(rt; asked, left.intersects(&view), true, 9, 0);
+            }
+        }
+    }
 }
 
 #[test]
 fn counts_of_like_words_fetch_both_once(rt: HostRuntime) {
-    read_rows(&rt, Pair::Counted);
-}
-
-// In the order `LittleEndian` the members are 451 and 508 too, since the order swaps bits 3 and 60
-// of a word. The first search fetches eight words. The second search begins at 451 and fetches one.
-fn relate_in_two_orders<B: Bits>(rt: &impl Abort, left: &B, right: &B, asked: &Asked)
-    requires left { ShapeFits B.Shape left.now }
-    requires right { ShapeFits B.Shape right.now }
-{
-    let view = right.in_order::<LittleEndian>();
-    costs!(rt; asked, left.first_common(&view), Some(451), 9, 0);
-    costs!(rt; asked, left.intersects(&view), true, 9, 0);
+    read_rows(&rt, Other::Counted);
 }
 
 #[test]
 fn relations_in_two_orders_search_from_item_to_item(rt: HostRuntime) {
-    read_rows(&rt, Pair::TwoOrders);
+    read_rows(&rt, Other::TwoOrders);
 }
 
 // Returns how many members two sets have in common.

@@ -2,10 +2,11 @@
 //! and how many other calls it makes to the words.
 
 ghost use Rattle.std.specs.Prelude.{◌≤◌, IsTrue};
+ghost use Rattle.bittle.specs.Values.{ShapeFits};
 
 use crate::asked::Asked;
 use crate::probe_rows::{Measured, costs, measure_rows};
-use bittle::{BigEndian, BitsOwned, Set};
+use bittle::{BigEndian, Bits, BitsMut, BitsOwned, Set};
 use bittle_ext::{BitsCombineExt, BitsCopyExt, BitsOwnedExt, BitsShiftExt, BitsSpanMutExt};
 use std::process::Abort;
 
@@ -23,7 +24,7 @@ impl Measured for Kind {
     fn measure<B: BitsOwned>(
         self,
         rt: &impl Abort,
-        few: B,
+        mut few: B,
         _most: B,
         one: B,
         _none: B,
@@ -32,23 +33,29 @@ impl Measured for Kind {
         asked: &Asked,
     ) {
         match self {
-            Kind::Ranges => change_ranges(rt, few, asked),
-            Kind::All => change_all(rt, few, asked),
-            Kind::ByAnother => change_by_another(rt, few, one, asked),
-            Kind::Moves => {
-                shift(rt, few, asked);
-                rotate(rt, few, asked);
-                move_from_left(rt, few, asked);
+            Kind::Ranges => change_ranges(rt, &mut few, asked),
+            Kind::All => {
+                let other = few;
+                change_all(rt, &mut few, &other, asked);
             }
-            Kind::CopiedRange => copy_range(rt, few, asked),
+            Kind::ByAnother => {
+                unite_and_intersect(rt, &mut few, &one, asked);
+                take_away_and_copy(rt, &mut few, &one, asked);
+            }
+            Kind::Moves => {
+                move_copies(rt, few, asked);
+                move_copies_from_left(rt, few, asked);
+                move_in_place(rt, &mut few, asked);
+            }
+            Kind::CopiedRange => copy_range(rt, &mut few, asked),
         }
     }
 }
 
 // Indexes 100 to 199 lie in words 1, 2 and 3.
-fn change_ranges<B: BitsOwned>(rt: &impl Abort, mut few: B, asked: &Asked)
-    requires indexable { IsTrue B.indexable }
-    requires long { 200 ≤ B.type_capacity }
+fn change_ranges<B: BitsMut>(rt: &impl Abort, few: &mut B, asked: &Asked)
+    requires fits { ShapeFits B.Shape few.old }
+    requires long { 200 ≤ (B.big few.old).capacity }
 {
     costs!(rt; asked, few.set_range_in::<BigEndian>(100, 200), (), 0, 3);
     costs!(rt; asked, few.toggle_range_in::<BigEndian>(100, 200), (), 0, 3);
@@ -64,11 +71,10 @@ fn a_change_of_a_range_in_an_order_asks_each_element_of_it_once(rt: HostRuntime)
 }
 
 // An operation on two sets of one type makes one call to each element of the first set.
-fn change_all<B: BitsOwned>(rt: &impl Abort, mut few: B, asked: &Asked)
+fn change_all<B: BitsOwned>(rt: &impl Abort, few: &mut B, other: &B, asked: &Asked)
     requires { IsTrue B.indexable }
 {
-    let other = few;
-    costs!(rt; asked, few.union_assign(&other), (), 0, 12);
+    costs!(rt; asked, few.union_assign(other), (), 0, 12);
     costs!(rt; asked, few.set_all(), (), 0, 12);
     costs!(rt; asked, few.clear_bits(), (), 0, 12);
 }
@@ -78,30 +84,25 @@ fn a_change_of_all_bits_asks_each_element_once(rt: HostRuntime) {
     measure_rows(&rt, Kind::All);
 }
 
-// Each call fetches each word of both sets, and writes each word of the first set.
-fn change_by_another<B: BitsOwned>(rt: &impl Abort, mut few: B, other: B, asked: &Asked)
-    requires { IsTrue B.indexable }
+// Changes `few` to its union with another set, and then to its intersection with that set. Each
+// call fetches each word of both sets, and writes each word of the first set.
+fn unite_and_intersect<A: BitsMut, B: Bits>(rt: &impl Abort, few: &mut A, right: &B, asked: &Asked)
+    requires few { ShapeFits A.Shape few.old }
+    requires right { ShapeFits B.Shape right.now }
 {
-    unite_and_intersect(rt, &mut few, other, asked);
-    take_away_and_copy(rt, &mut few, other, asked);
-}
-
-// Changes `few` to its union with another set, and then to its intersection with that set.
-fn unite_and_intersect<B: BitsOwned>(rt: &impl Abort, few: &mut B, other: B, asked: &Asked)
-    requires { IsTrue B.indexable }
-{
-    costs!(rt; asked, few.union_with(&other), false, 24, 12);
-    costs!(rt; asked, few.intersect_with(&other), true, 24, 12);
+    costs!(rt; asked, few.union_with(right), false, 24, 12);
+    costs!(rt; asked, few.intersect_with(right), true, 24, 12);
 }
 
 // Changes `few` to its difference with another set, and then to its symmetric difference with that
-// set. Then copies that set to `few`.
-fn take_away_and_copy<B: BitsOwned>(rt: &impl Abort, few: &mut B, other: B, asked: &Asked)
-    requires { IsTrue B.indexable }
+// set. Then copies that set to `few`. The calls read and write what the calls above do.
+fn take_away_and_copy<A: BitsMut, B: Bits>(rt: &impl Abort, few: &mut A, right: &B, asked: &Asked)
+    requires few { ShapeFits A.Shape few.old }
+    requires right { ShapeFits B.Shape right.now }
 {
-    costs!(rt; asked, few.difference_with(&other), true, 24, 12);
-    costs!(rt; asked, few.symmetric_difference_with(&other), true, 24, 12);
-    costs!(rt; asked, few.copy_from(&other), (), 24, 12);
+    costs!(rt; asked, few.difference_with(right), true, 24, 12);
+    costs!(rt; asked, few.symmetric_difference_with(right), true, 24, 12);
+    costs!(rt; asked, few.copy_from(right), (), 24, 12);
 }
 
 #[test]
@@ -110,35 +111,34 @@ fn a_change_by_another_set_reads_each_word_of_both_once(rt: HostRuntime) {
 }
 
 // A shift by 65 makes ten words from two words each, and one from one word. One word becomes empty.
-fn shift<B: BitsOwned>(rt: &impl Abort, mut few: B, asked: &Asked)
+// A rotation makes each new word from two words.
+fn move_copies<B: BitsOwned>(rt: &impl Abort, set: B, asked: &Asked)
     requires { IsTrue B.indexable }
 {
-    costs!(rt; asked, { let _ = few.shifted_up(65); }, (), 21, 12);
-    costs!(rt; asked, { let _ = few.shifted_down(65); }, (), 21, 12);
-    costs!(rt; asked, few.shift_up(65), (), 21, 12);
-    costs!(rt; asked, few.shift_down(65), (), 21, 12);
-}
-
-// `rotated_up` and `rotated_down` make each new word from two words. `rotate_down` by 200 first
-// exchanges 11 pairs of words, which rotates the row by three words. Then it makes the new last
-// word from two words, shifts all bits down by 8, and writes the last word. `rotate_up` by 65 makes
-// the first two words from two words each, shifts all bits up, and writes the first two words.
-fn rotate<B: BitsOwned>(rt: &impl Abort, mut few: B, asked: &Asked)
-    requires { IsTrue B.indexable }
-{
-    costs!(rt; asked, { let _ = few.rotated_up(65); }, (), 24, 12);
-    costs!(rt; asked, { let _ = few.rotated_down(65); }, (), 24, 12);
-    costs!(rt; asked, few.rotate_down(200), (), 47, 35);
-    costs!(rt; asked, few.rotate_up(65), (), 25, 14);
+    costs!(rt; asked, { let _ = set.shifted_up(65); }, (), 21, 12);
+    costs!(rt; asked, { let _ = set.shifted_down(65); }, (), 21, 12);
+    costs!(rt; asked, { let _ = set.rotated_up(65); }, (), 24, 12);
+    costs!(rt; asked, { let _ = set.rotated_down(65); }, (), 24, 12);
 }
 
 // In the order `LittleEndian` a shift and a rotation cost the same as in the other order.
-fn move_from_left<B: BitsOwned>(rt: &impl Abort, few: B, asked: &Asked)
+fn move_copies_from_left<B: BitsOwned>(rt: &impl Abort, few: B, asked: &Asked)
     requires { IsTrue B.indexable }
 {
-    let set = Set::new_le(few);
-    costs!(rt; asked, { let _ = set.shifted_down(65); }, (), 21, 12);
-    costs!(rt; asked, { let _ = set.rotated_down(65); }, (), 24, 12);
+    move_copies(rt, Set::new_le(few), asked);
+}
+
+// Shifts cost what they cost in `move_copies`. `rotate_down` by 200 first exchanges 11 pairs of
+// words, which rotates the row by three words. Then it makes the new last word from two words,
+// shifts all bits down by 8, and writes the last word. `rotate_up` by 65 makes the first two words
+// from two words each, shifts all bits up, and writes the first two words.
+fn move_in_place<B: BitsMut>(rt: &impl Abort, few: &mut B, asked: &Asked)
+    requires { ShapeFits B.Shape few.old }
+{
+    costs!(rt; asked, few.shift_up(65), (), 21, 12);
+    costs!(rt; asked, few.shift_down(65), (), 21, 12);
+    costs!(rt; asked, few.rotate_down(200), (), 47, 35);
+    costs!(rt; asked, few.rotate_up(65), (), 25, 14);
 }
 
 #[test]
@@ -147,9 +147,9 @@ fn a_move_of_all_bits_reads_each_word_a_few_times(rt: HostRuntime) {
 }
 
 // Indexes 130 to 257 lie in words 2, 3 and 4. Each of these is fetched once and written once.
-fn copy_range<B: BitsOwned>(rt: &impl Abort, mut few: B, asked: &Asked)
-    requires indexable { IsTrue B.indexable }
-    requires long { 258 ≤ B.type_capacity }
+fn copy_range<B: BitsMut>(rt: &impl Abort, few: &mut B, asked: &Asked)
+    requires fits { ShapeFits B.Shape few.old }
+    requires long { 258 ≤ (B.big few.old).capacity }
 {
     let plain = [0u64; 2];
     costs!(rt; asked, few.copy_range(&plain, 0, 128, 130), (), 3, 3);

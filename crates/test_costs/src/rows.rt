@@ -2,36 +2,35 @@
 //! many calls are made to the elements of the row.
 
 ghost use Rattle.std.specs.Prelude.{IsTrue};
+ghost use Rattle.bittle.specs.Values.{ShapeFits};
 
 use crate::asked::{Asked, counts};
 use crate::checks::{holds, same};
 use crate::probe::{ONES, Probe};
 use crate::word_probe::WordProbe;
-use bittle::{BigEndian, Bits, BitsOwned, Shape, macros};
+use bittle::{BigEndian, Bits, BitsMut, BitsOwned, Shape, macros};
 use std::process::Abort;
 
-// Sets the bits at the indexes `from..to`, and returns the changed set.
-fn with_until<B: BitsOwned>(mut set: B, from: u32, to: u32) -> B
-    requires { IsTrue B.indexable }
+// Sets the bits at the indexes `from..to`.
+fn set_until<B: BitsMut>(set: &mut B, from: u32, to: u32)
+    requires { ShapeFits B.Shape set.old }
 {
-    macros::put_until_in::<B, BigEndian>(&mut set, from, to);
-    set
+    macros::put_until_in::<B, BigEndian>(set, from, to);
 }
 
-// Sets the bits at the indexes `from..=to`, and returns the changed set.
-fn with_through<B: BitsOwned>(mut set: B, from: u32, to: u32) -> B
-    requires { IsTrue B.indexable }
+// Sets the bits at the indexes `from..=to`.
+fn set_through<B: BitsMut>(set: &mut B, from: u32, to: u32)
+    requires { ShapeFits B.Shape set.old }
 {
-    macros::put_through_in::<B, BigEndian>(&mut set, from, to);
-    set
+    macros::put_through_in::<B, BigEndian>(set, from, to);
 }
 
 // Sets all bits but the first five of a row of nine elements of 32 bits. For `[T; 9]` the call is
 // proved in less time than for `[Probe; 9]`.
-fn set_most_of_row<T: BitsOwned>(row: [T; 9])
+fn set_most_of_row<T: BitsOwned>(mut row: [T; 9])
     requires { IsTrue ⟦<[T; 9] as Shape>⟧.indexable }
 {
-    let _ = with_until(row, 5, 288);
+    set_until(&mut row, 5, 288);
 }
 
 #[test]
@@ -44,10 +43,11 @@ fn a_range_in_a_row_asks_each_element_once(rt: HostRuntime) {
 #[test]
 fn a_range_is_one_call_or_two(rt: HostRuntime) {
     let asked = Asked::new();
-    let probe = with_until(Probe::of([0; 4], &asked), 5, 30);
+    let mut probe = Probe::of([0; 4], &asked);
+    set_until(&mut probe, 5, 30);
     same!(rt; probe.bytes, [0xE0, 0xFF, 0xFF, 0x3F]);
     holds!(rt; asked.fetches() == 0 && asked.other() == 1);
-    let probe = with_through(probe, 31, 32);
+    set_through(&mut probe, 31, 32);
     same!(rt; probe.bytes, [0xE1, 0xFF, 0xFF, 0xBF]);
     holds!(rt; asked.fetches() == 0 && asked.other() == 3);
 }

@@ -212,7 +212,8 @@ fn a_view_of_two_sets_passes_over_what_either_tells(rt: HostRuntime) {
     ask_ones(&rt, Question::TwoSets, [0, 0, 4, 0], (4, 4, 0));
 }
 
-// Returns whether two sets have a common member, and whether the second has each member of the first.
+// Returns whether two sets have a common member, and whether the second has each member of the
+// first.
 fn relate<A: Bits, B: Bits>(left: &A, right: &B) -> (bool, bool)
     requires left { ShapeFits A.Shape left.now }
     requires right { ShapeFits B.Shape right.now }
@@ -222,9 +223,9 @@ fn relate<A: Bits, B: Bits>(left: &A, right: &B) -> (bool, bool)
 
 #[test]
 fn a_relation_passes_over_what_either_tells(rt: HostRuntime) {
-    // The words 0 and 3 of the first set have a set bit, and word 2 of the second. Each call fetches
-    // word 0 of both sets. For a common member that is all: no other word has a set bit in both. For
-    // a member that only the first set has, word 0 decides.
+    // The words 0 and 3 of the first set have a set bit, and word 2 of the second. Each call
+    // fetches word 0 of both sets. For a common member that is all: no other word has a set bit in
+    // both. For a member that only the first set has, word 0 decides.
     ask_ones(&rt, Question::Relations, [0, 0, 4, 0], (2, 2, 0));
 }
 
@@ -281,7 +282,8 @@ fn a_run_is_looked_for_past_words_without_a_bit(rt: HostRuntime) {
     ask_ones(&rt, Question::Runs, [0; 4], (4, 0, 0));
 }
 
-// Counts the runs of set bits with two iterators: one stepped from the front, and one from the back.
+// Counts the runs of set bits with two iterators: one stepped from the front, and one from the
+// back.
 fn count_runs<B: Bits>(set: &B) -> (usize, usize)
     requires { ShapeFits B.Shape set.now }
 {
@@ -293,8 +295,8 @@ fn count_runs<B: Bits>(set: &B) -> (usize, usize)
 
 #[test]
 fn an_iterator_over_runs_passes_over_words_without_a_bit(rt: HostRuntime) {
-    // The first word is fetched once for its own edges. Words 1 and 3 are each fetched with the word
-    // before. The iterator from the front skips word 2. The one from the back also reads word 2 with
-    // the word before, since word 1 might end with a set bit. It tests one bit.
+    // The first word is fetched once for its own edges. Words 1 and 3 are each fetched with the
+    // word before. The iterator from the front skips word 2. The one from the back also reads word
+    // 2 with the word before, since word 1 might end with a set bit. It tests one bit.
     ask_ones(&rt, Question::RunWalks, [0; 4], (12, 0, 1));
 }

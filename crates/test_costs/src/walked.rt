@@ -9,10 +9,13 @@ use bittle::join::JoinOnes;
 use bittle::{Bits, DefaultEndian, Endian};
 use bittle_bits::extension::{Kind, ReadWords};
 use bittle_bits::walk::{IntoIter, Iter};
+use bittle_ext::run_iterators::IterRuns;
 use std::ops::Range;
 
 // Returns how many items an iterator yields.
-fn count_items<W: Iterator<Item = u32> + Drop>(walk: W) -> usize
+fn count_items<W: Iterator + Drop>(walk: W) -> usize
+where
+    W::Item: Drop,
     requires can { W.can_next walk }
     requires ends { IsFinite (W.remaining walk) }
 {
@@ -47,6 +50,16 @@ pub(crate) fn count_owned_back<B: ReadWords + Drop, E: Endian, K: Kind>(
     count_items(walk.rev())
 }
 
+/// Returns how many runs an iterator over the runs of a set yields.
+pub(crate) fn count_runs<B: Bits, E: Endian, K: Kind>(walk: IterRuns<'_, B, E, K>) -> usize {
+    count_items(walk)
+}
+
+/// Returns how many runs an iterator over the runs of a set yields from the back.
+pub(crate) fn count_runs_back<B: Bits, E: Endian, K: Kind>(walk: IterRuns<'_, B, E, K>) -> usize {
+    count_items(walk.rev())
+}
+
 /// Returns the next item of an iterator over a borrowed set.
 pub(crate) fn next<B: ReadWords, E: Endian, K: Kind>(walk: &mut Iter<'_, B, E, K>) -> Option<u32> {
     walk.next()
@@ -63,12 +76,12 @@ pub(crate) fn next_joined<B: Bits>(
 pub(crate) fn count_ones<B: Bits>(set: &B) -> usize
     requires { ShapeFits B.Shape set.now }
 {
-    set.iter_ones().count()
+    count(set.iter_ones())
 }
 
 /// Counts the unset bits of a set with an iterator.
 pub(crate) fn count_zeros<B: Bits>(set: &B) -> usize
     requires { ShapeFits B.Shape set.now }
 {
-    set.iter_zeros().count()
+    count(set.iter_zeros())
 }
