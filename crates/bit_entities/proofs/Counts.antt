@@ -1,11 +1,14 @@
 -- How many entities are alive: after each event, after a list of events, and if a search finds no
 -- free number.
-use Rattle.std.proofs.Common.{◌≡◌, ℕ, ◌+◌, ◌<◌, Bool, true, false, cond, Option, Some, None, List, [], ◌∷◌, refl, ap, arith}
+use Rattle.std.proofs.Common.{◌≡◌, ℕ, ◌+◌, ◌<◌, Bool, true, false, cond, Option, Some, None, List}
+use Rattle.std.proofs.Common.{[], ◌∷◌, refl, ap, arith}
 use Rattle.bittle.specs.PlainSet.{PlainSet, complement, size, with_index}
 use Rattle.bittle.specs.Searches.{NoneIn}
 use Rattle.bittle.proofs.CallerChanges.{size_with, size_without}
 use Rattle.bittle.proofs.CallerSets.{size_at_most, size_whole}
-use Rattle.bit_entities.specs.Entities.{World, IsWorld, least_dead, may_have, without_entity, with_component, spawned_or_full, with_spawned, answer_to, world_after, event_answers, final_world}
+use Rattle.bit_entities.specs.Entities.{World, IsWorld, least_dead, may_have, without_entity}
+use Rattle.bit_entities.specs.Entities.{with_component, spawned_or_full, with_spawned, answer_to}
+use Rattle.bit_entities.specs.Entities.{world_after, event_answers, final_world}
 use Rattle.bit_histories.specs.Histories.{total}
 use Rattle.bit_entities.specs.EntityLaws.{spawned_by, removed_by}
 use Rattle.bit_entities.specs.declared.Event.{Event}

@@ -1,17 +1,22 @@
 -- What follows from the entity machine for each event, and for each list of them.
-use Rattle.std.proofs.Common.{◌≡◌, ◌≢◌, ℕ, ◌<◌, ◌⊎◌, ◌↔◌, Bool, true, false, not, cond, Option, Some, None, List, [], ◌∷◌, inl, inr, refl, sym, ap, ◌∙◌, arith}
+use Rattle.std.proofs.Common.{◌≡◌, ◌≢◌, ℕ, ◌<◌, ◌⊎◌, ◌↔◌, Bool, true, false, not, cond, Option}
+use Rattle.std.proofs.Common.{Some, None, List, [], ◌∷◌, inl, inr, refl, sym, ap, ◌∙◌, arith}
 use Rattle.std.proofs.lemmas.Bool.{cases_lt, lt-ltb, true≢false}
 use Rattle.bittle.specs.PlainSet.{PlainSet, complement, empty_set}
 use Rattle.bittle.specs.Searches.{IsFirstIn}
 use Rattle.bittle.proofs.CallerSets.{complement_within}
-use Rattle.bit_entities.specs.Entities.{World, IsWorld, empty_world, least_dead, may_have, with_living, without_entity, with_component, spawned_or_full, with_spawned, answer_to, world_after, final_world}
+use Rattle.bit_entities.specs.Entities.{World, IsWorld, empty_world, least_dead, may_have}
+use Rattle.bit_entities.specs.Entities.{with_living, without_entity, with_component}
+use Rattle.bit_entities.specs.Entities.{spawned_or_full, with_spawned, answer_to, world_after}
+use Rattle.bit_entities.specs.Entities.{final_world}
 use Rattle.bit_entities.specs.EntityLaws.{IsLeastDead, IsNew, IsDoneExactlyIf}
 use Rattle.bit_entities.specs.declared.Event.{Event}
 use Rattle.bit_entities.specs.declared.Event.TheVariants.{Spawn, Remove, Attach, Detach}
 use Rattle.bit_entities.specs.declared.Answer.TheVariants.{Spawned, Full, Done, Refused}
 use Rattle.bit_entities.proofs.LeastDead.{listed_first, outside}
 use Rattle.bit_entities.proofs.Masks.{number_now}
-use Rattle.bit_entities.proofs.Worlds.{may_parts, bare_is_world, dead_lacks, living_is_world, going_is_world, having_is_world}
+use Rattle.bit_entities.proofs.Worlds.{may_parts, bare_is_world, dead_lacks, living_is_world}
+use Rattle.bit_entities.proofs.Worlds.{going_is_world, having_is_world}
 
 -- `IsWorld` still holds after a change of a component
 changed_is_world : (w : World) (entity component : ℕ) (is : Bool) → IsWorld w → IsWorld

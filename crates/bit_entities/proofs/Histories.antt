@@ -1,9 +1,14 @@
 -- What holds of every list of events: which answers it has, when a number is spawned again, which
 -- entities live, and which components are kept.
-use Rattle.std.proofs.Common.{◌≡◌, ◌≢◌, ℕ, zero, suc, ◌<◌, ◌⊎◌, ◌↔◌, Bool, true, false, cond, ◌&&◌, ◌==◌, Option, Some, None, List, [], ◌∷◌, inl, inr, refl, sym, ap, ◌∙◌, arith}
+use Rattle.std.proofs.Common.{◌≡◌, ◌≢◌, ℕ, zero, suc, ◌<◌, ◌⊎◌, ◌↔◌, Bool, true, false, cond, ◌&&◌}
+use Rattle.std.proofs.Common.{◌==◌, Option, Some, None, List, [], ◌∷◌, inl, inr, refl, sym, ap, ◌∙◌}
+use Rattle.std.proofs.Common.{arith}
 use Rattle.std.specs.Prelude.{slice_get}
-use Rattle.std.proofs.lemmas.Bool.{cases_eq, cases_Bool, eq-eqb, ne_eqb, eqb-true, lt-ltb, and_parts, true≢false}
-use Rattle.bit_entities.specs.Entities.{World, IsWorld, least_dead, may_have, without_entity, with_component, spawned_or_full, with_spawned, answer_to, world_after, event_answers, final_world}
+use Rattle.std.proofs.lemmas.Bool.{cases_eq, cases_Bool, eq-eqb, ne_eqb, eqb-true, lt-ltb}
+use Rattle.std.proofs.lemmas.Bool.{and_parts, true≢false}
+use Rattle.bit_entities.specs.Entities.{World, IsWorld, least_dead, may_have, without_entity}
+use Rattle.bit_entities.specs.Entities.{with_component, spawned_or_full, with_spawned, answer_to}
+use Rattle.bit_entities.specs.Entities.{world_after, event_answers, final_world}
 use Rattle.bit_entities.specs.EntityLaws.{IsKeptFrom, IsRemoved, LivesFrom}
 use Rattle.bit_entities.specs.declared.Event.{Event}
 use Rattle.bit_entities.specs.declared.Event.TheVariants.{Spawn, Remove, Attach, Detach}
@@ -291,7 +296,8 @@ module _ (entity component : ℕ) where
       by false m (inr lacks) = lacks
       by false m (inl has) =
           let lives = is.dead_have_nothing entity component has in
-          let there = lt-ltb component w.components (is.components_are_below entity component has) in
+          let there = lt-ltb component w.components
+          (is.components_are_below entity component has) in
           let may : may_have w entity component ≡ true = rw (there, lives) refl in
           absurd (true≢false (sym may ∙ m))
 

@@ -1,5 +1,6 @@
 -- The least number that is not alive, and how a search finds it.
-use Rattle.std.proofs.Common.{◌≡◌, ℕ, ◌<◌, ◌≤◌, Bool, true, false, not, nat_lt, Option, Some, None, List, [], ◌∷◌, refl, sym, ap, ◌∙◌, subst, inl, inr, arith}
+use Rattle.std.proofs.Common.{◌≡◌, ℕ, ◌<◌, ◌≤◌, Bool, true, false, not, nat_lt, Option, Some, None}
+use Rattle.std.proofs.Common.{List, [], ◌∷◌, refl, sym, ap, ◌∙◌, subst, inl, inr, arith}
 use Rattle.std.proofs.lemmas.Bool.{cases_lt, ltb-true, and_parts, true≢false}
 use Rattle.std.specs.Prelude.{slice_get, MatchOption}
 use Rattle.bittle.specs.PlainSet.{PlainSet, ascending, complement, lacks}
@@ -51,7 +52,8 @@ outside s k e =
     by false e = refl
 
 -- what a search of the complement finds is at most each number that is no member
-pub least_outside : (s : PlainSet) (found : Option ℕ) → IsFirstIn (complement s) 0 s.capacity found →
+pub least_outside : (s : PlainSet) (found : Option ℕ) →
+    IsFirstIn (complement s) 0 s.capacity found →
     (k : ℕ) → k < s.capacity → s.has k ≡ false → MatchOption found ⊥ (λ new. new ≤ k)
 least_outside s None none k h dead =
     absurd (true≢false (sym (complement_within s k h ∙ ap not dead) ∙ none k (omega arith) h))

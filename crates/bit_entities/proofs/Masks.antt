@@ -1,11 +1,13 @@
 -- A change of one mask, alone or in a row of masks, and the world after it.
-use Rattle.std.proofs.Common.{◌≡◌, ℕ, ◌+◌, ◌<◌, Bool, true, false, not, cond, ◌&&◌, ◌||◌, ◌==◌, nat_lt, Some, List, length, set, inl, inr, refl, sym, ap, ◌∙◌, arith}
+use Rattle.std.proofs.Common.{◌≡◌, ℕ, ◌+◌, ◌<◌, Bool, true, false, not, cond, ◌&&◌, ◌||◌, ◌==◌}
+use Rattle.std.proofs.Common.{nat_lt, Some, List, length, set, inl, inr, refl, sym, ap, ◌∙◌, arith}
 use Rattle.std.specs.Prelude.{slice_get}
 use Rattle.std.proofs.lemmas.Bool.{cases_eq, cases_lt, eq-eqb, ne_eqb, lt-ltb, le-ltb}
 use Rattle.bittle.specs.PlainSet.{PlainSet, with_index, without_index}
 use Rattle.bittle.proofs.CallerSets.{with_index_within, without_index_within}
 use Rattle.bittle.proofs.CallerTables.{slice_get_set_same, slice_get_set_other}
-use Rattle.bit_entities.specs.Entities.{World, world_of, is_in, with_number, with_component, without_first}
+use Rattle.bit_entities.specs.Entities.{World, world_of, is_in, with_number, with_component}
+use Rattle.bit_entities.specs.Entities.{without_first}
 
 -- below the capacity, `with_index` and `without_index` are `with_number`
 pub put_in : (s : PlainSet) (i : ℕ) → i < s.capacity → with_index s i ≡ with_number s i true

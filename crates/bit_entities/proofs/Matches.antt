@@ -1,5 +1,7 @@
 -- The entities that have each of a list of components.
-use Rattle.std.proofs.Common.{◌≡◌, ℕ, zero, suc, ◌+◌, ◌<◌, ◌≤◌, Bool, true, false, cond, ◌&&◌, List, [], ◌∷◌, length, take, get_or, inl, inr, refl, sym, ap, subst, ◌∙◌, ◌↔◌, arith}
+use Rattle.std.proofs.Common.{◌≡◌, ℕ, zero, suc, ◌+◌, ◌<◌, ◌≤◌, Bool, true, false, cond, ◌&&◌, List}
+use Rattle.std.proofs.Common.{[], ◌∷◌, length, take, get_or, inl, inr, refl, sym, ap, subst, ◌∙◌}
+use Rattle.std.proofs.Common.{◌↔◌, arith}
 use Rattle.std.specs.List.{list_all}
 use Rattle.std.proofs.lemmas.Bool.{cases_lt, cases_Bool, le-ltb, and_parts, true≢false}
 use Rattle.std.proofs.lemmas.List.Folds.{list_all_more, list_all_at}
@@ -8,7 +10,8 @@ use Rattle.bittle.specs.Searches.{NoneIn}
 use Rattle.bit_entities.specs.EntityLaws.{VisitsFrom}
 use Rattle.bittle.specs.SetOperations.{conjunction_of, combination_has}
 use Rattle.bittle.proofs.CallerSets.{combination_within}
-use Rattle.bit_entities.specs.Entities.{World, IsWorld, EndsAtCapacity, matching, having, IncludesMatching}
+use Rattle.bit_entities.specs.Entities.{World, IsWorld, EndsAtCapacity, matching, having}
+use Rattle.bit_entities.specs.Entities.{IncludesMatching}
 
 -- the conjunction of a mask and the mask of a component is `having`
 pub kept_by_mask : (w : World) (s t : PlainSet) (component : ℕ) → s.capacity ≡ t.capacity →
@@ -113,7 +116,8 @@ visits_from : (s : PlainSet) (low from n : ℕ) → low ≤ from → NoneIn s lo
 unfolding ascending_from VisitsFrom
 visits_from s low from zero h none e = λ k p q. none k p (omega (arith, e, q))
 visits_from s low from (suc n) h none e =
-    by (s.has from) refl (λ least l clear. visits_from s least (suc from) n l clear (omega (arith, e)))
+    by (s.has from) refl (λ least l clear. visits_from s least (suc from) n l clear
+    (omega (arith, e)))
   where
     further : s.has from ≡ false → NoneIn s low (suc from)
     further lacks k p q = elim (cases_lt k from) [
@@ -140,8 +144,10 @@ visits_once : (s : PlainSet) (from : ℕ) (xs ys : List ℕ) → VisitsFrom s fr
     VisitsFrom s from ys → xs ≡ ys
 unfolding VisitsFrom
 visits_once s from [] [] xs_visit ys_visit = refl
-visits_once s from [] (y ∷ ys) none some = absurd (true≢false (sym some.0.2 ∙ none y some.0.0 some.0.1))
-visits_once s from (x ∷ xs) [] some none = absurd (true≢false (sym some.0.2 ∙ none x some.0.0 some.0.1))
+visits_once s from [] (y ∷ ys) none some =
+    absurd (true≢false (sym some.0.2 ∙ none y some.0.0 some.0.1))
+visits_once s from (x ∷ xs) [] some none =
+    absurd (true≢false (sym some.0.2 ∙ none x some.0.0 some.0.1))
 visits_once s from (x ∷ xs) (y ∷ ys) ours theirs =
     let same : x ≡ y = elim (cases_lt x y) [
       | inl l ↦ absurd (true≢false (sym ours.0.2 ∙ theirs.0.3 x ours.0.0 l))

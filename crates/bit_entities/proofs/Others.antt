@@ -1,8 +1,11 @@
 -- What a change of a world, or an event, leaves as it was.
-use Rattle.std.proofs.Common.{◌≡◌, ◌≢◌, ℕ, ◌⊎◌, Bool, true, false, cond, ◌&&◌, ◌==◌, Option, Some, None, List, [], ◌∷◌, inl, inr, refl, sym, ap, ◌∙◌, subst}
+use Rattle.std.proofs.Common.{◌≡◌, ◌≢◌, ℕ, ◌⊎◌, Bool, true, false, cond, ◌&&◌, ◌==◌, Option, Some}
+use Rattle.std.proofs.Common.{None, List, [], ◌∷◌, inl, inr, refl, sym, ap, ◌∙◌, subst}
 use Rattle.std.proofs.lemmas.Bool.{eq-eqb, ne_eqb}
 use Rattle.bittle.specs.PlainSet.{PlainSet}
-use Rattle.bit_entities.specs.Entities.{World, least_dead, may_have, with_number, without_entity, with_component, spawned_or_full, with_spawned, answer_to, world_after, final_world}
+use Rattle.bit_entities.specs.Entities.{World, least_dead, may_have, with_number, without_entity}
+use Rattle.bit_entities.specs.Entities.{with_component, spawned_or_full, with_spawned, answer_to}
+use Rattle.bit_entities.specs.Entities.{world_after, final_world}
 use Rattle.bit_entities.specs.EntityLaws.{names, IsUnchanged}
 use Rattle.bit_entities.specs.declared.Event.{Event}
 use Rattle.bit_entities.specs.declared.Event.TheVariants.{Spawn, Remove, Attach, Detach}
@@ -125,7 +128,8 @@ one_keeps_sizes w (Remove entity) =
 one_keeps_sizes w (Attach entity component) =
     same_sizes w (with_component w entity component true) (may_have w entity component) (refl, refl)
 one_keeps_sizes w (Detach entity component) =
-    same_sizes w (with_component w entity component false) (may_have w entity component) (refl, refl)
+    same_sizes w (with_component w entity component false)
+    (may_have w entity component) (refl, refl)
 
 -- no list of events changes how many numbers and how many components there are
 pub sizes_stay : (w : World) (events : List Event) →

@@ -1,11 +1,15 @@
 -- What each change keeps of a world: no dead entity has a component, and each living entity is
 -- below the capacity.
-use Rattle.std.proofs.Common.{◌≡◌, ℕ, zero, suc, ◌<◌, ◌≤◌, Bool, true, false, cond, ◌&&◌, ◌==◌, nat_lt, inl, inr, refl, sym, ap, ◌∙◌, arith}
+use Rattle.std.proofs.Common.{◌≡◌, ℕ, zero, suc, ◌<◌, ◌≤◌, Bool, true, false, cond, ◌&&◌, ◌==◌}
+use Rattle.std.proofs.Common.{nat_lt, inl, inr, refl, sym, ap, ◌∙◌, arith}
 use Rattle.std.proofs.Math.ListN.{replicate}
 use Rattle.std.specs.Prelude.{slice_get}
-use Rattle.std.proofs.lemmas.Bool.{cases_Bool, cases_eq, cases_lt, eq-eqb, ne_eqb, lt-ltb, ltb-true, and_parts, true≢false}
+use Rattle.std.proofs.lemmas.Bool.{cases_Bool, cases_eq, cases_lt, eq-eqb, ne_eqb, lt-ltb, ltb-true}
+use Rattle.std.proofs.lemmas.Bool.{and_parts, true≢false}
 use Rattle.bittle.specs.PlainSet.{PlainSet}
-use Rattle.bit_entities.specs.Entities.{World, IsWorld, EndsAtCapacity, is_in, world_of, bare_world, may_have, with_number, with_living, without_first, without_entity, with_component}
+use Rattle.bit_entities.specs.Entities.{World, IsWorld, EndsAtCapacity, is_in, world_of, bare_world}
+use Rattle.bit_entities.specs.Entities.{may_have, with_number, with_living, without_first}
+use Rattle.bit_entities.specs.Entities.{without_entity, with_component}
 
 -- a world with other living entities
 abbrev pub with_alive : World → PlainSet → World

@@ -1,7 +1,8 @@
 -- The entity machine: its state tells which entities are alive and which components each entity
 -- has, and each event has an answer and a next state. Entities and components are numbers.
 use Rattle.std.specs.List.{fold, scan, list_all}
-use Rattle.std.specs.Prelude.{◌≡◌, ℕ, ◌<◌, ◌≤◌, Bool, true, false, ◌&&◌, ◌==◌, nat_lt, if◌then◌else◌}
+use Rattle.std.specs.Prelude.{◌≡◌, ℕ, ◌<◌, ◌≤◌, Bool, true, false, ◌&&◌, ◌==◌, nat_lt}
+use Rattle.std.specs.Prelude.{if◌then◌else◌}
 use Rattle.std.specs.Prelude.{Option, Some, None, List, slice_get}
 use Rattle.bittle.specs.PlainSet.{PlainSet, ascending, complement, empty_set}
 use Rattle.bit_entities.specs.declared.Event.{Event}

@@ -1,9 +1,11 @@
 -- Laws of the entity machine, for all events.
-use Rattle.std.specs.Prelude.{◌≡◌, ◌≢◌, ℕ, suc, ◌+◌, ◌<◌, ◌⊎◌, ◌↔◌, Bool, true, false, ◌==◌, Some, List, [], ◌∷◌, slice_get}
+use Rattle.std.specs.Prelude.{◌≡◌, ◌≢◌, ℕ, suc, ◌+◌, ◌<◌, ◌⊎◌, ◌↔◌, Bool, true, false, ◌==◌, Some}
+use Rattle.std.specs.Prelude.{List, [], ◌∷◌, slice_get}
 use Rattle.bittle.specs.PlainSet.{PlainSet, ascending, size}
 use Rattle.bittle.specs.Searches.{NoneIn, IsFirstIn}
 use Rattle.bit_histories.specs.Histories.{total}
-use Rattle.bit_entities.specs.Entities.{World, IsWorld, empty_world, answer_to, world_after, event_answers, final_world, matching}
+use Rattle.bit_entities.specs.Entities.{World, IsWorld, empty_world, answer_to, world_after}
+use Rattle.bit_entities.specs.Entities.{event_answers, final_world, matching}
 use Rattle.bit_entities.specs.declared.Event.{Event}
 use Rattle.bit_entities.specs.declared.Event.TheVariants.{Spawn, Remove, Attach, Detach}
 use Rattle.bit_entities.specs.declared.Answer.{Answer}
@@ -102,7 +104,8 @@ OtherComponentsStay =
     (w : World) (event : Event) (entity component : ℕ)
     → (event ≡ Attach entity component) ⊎ (event ≡ Detach entity component)
     → ((world_after w event).alive ≡ w.alive)
-    × ((each other : ℕ) → other ≢ component → (world_after w event).has each other ≡ w.has each other)
+    × ((each other : ℕ) → other ≢ component → (world_after w event).has each other
+    ≡ w.has each other)
 
 -- no list of events changes how many numbers and how many components there are
 abbrev pub SizesStay : Type 0

@@ -1,6 +1,8 @@
 -- The least free page, and how a search of the free pages finds it.
-use Rattle.std.proofs.Common.{◌≡◌, ℕ, zero, suc, ◌+◌, ◌<◌, ◌≤◌, ◌⊎◌, Bool, true, false, not, ◌&&◌, cond, nat_lt, Option, Some, None, inl, inr, refl, sym, ap, ◌∙◌, arith}
-use Rattle.std.proofs.lemmas.Bool.{cases_eq, cases_Bool, cases_lt, lt-ltb, ltb-true, not-true, not-false, and_parts, true≢false}
+use Rattle.std.proofs.Common.{◌≡◌, ℕ, zero, suc, ◌+◌, ◌<◌, ◌≤◌, ◌⊎◌, Bool, true, false, not, ◌&&◌}
+use Rattle.std.proofs.Common.{cond, nat_lt, Option, Some, None, inl, inr, refl, sym, ap, ◌∙◌, arith}
+use Rattle.std.proofs.lemmas.Bool.{cases_eq, cases_Bool, cases_lt, lt-ltb, ltb-true, not-true}
+use Rattle.std.proofs.lemmas.Bool.{not-false, and_parts, true≢false}
 use Rattle.std.specs.Prelude.{MatchOption}
 use Rattle.bittle.specs.PlainSet.{PlainSet, complement, contains, size}
 use Rattle.bittle.specs.Searches.{NoneIn, IsFirstIn}

@@ -1,5 +1,6 @@
 -- How many pages there are: requests do not change this number, and answers are below it.
-use Rattle.std.proofs.Common.{◌≡◌, ℕ, zero, suc, ◌+◌, ◌<◌, ◌≤◌, ◌⊎◌, Some, List, [], ◌∷◌, inl, inr, refl, ◌∙◌, arith}
+use Rattle.std.proofs.Common.{◌≡◌, ℕ, zero, suc, ◌+◌, ◌<◌, ◌≤◌, ◌⊎◌, Some, List, [], ◌∷◌, inl, inr}
+use Rattle.std.proofs.Common.{refl, ◌∙◌, arith}
 use Rattle.std.specs.Prelude.{slice_get}
 use Rattle.bittle.specs.PlainSet.{PlainSet}
 use Rattle.bit_pages.specs.PageLaws.{IsFree, IsLeastFree}
@@ -48,7 +49,12 @@ unfolding request_answers
 pages_are_below s [] i page e = absurd (cc)
 pages_are_below s (request ∷ requests) zero page e = page_is_below s request page (some_is e)
 pages_are_below s (request ∷ requests) (suc i) page e =
-    omega (arith, (step s request).capacity, pages_are_below (state_after s request) requests i page e)
+    omega (
+      arith,
+      (step s request).capacity,
+      pages_are_below (state_after s request)
+          requests i page e,
+    )
 
 -- each run of a list of answers ends at or below the number of pages
 pub runs_are_below : (s : PlainSet) (requests : List Request) (i first n : ℕ) →

@@ -1,12 +1,16 @@
 -- What follows from the page machine for every history: to which state an answer belongs, how many
 -- pages are taken, and which are outstanding.
-use Rattle.std.proofs.Common.{◌≡◌, ◌≢◌, ℕ, zero, suc, ◌+◌, ◌<◌, ◌≤◌, Bool, true, false, not, cond, ◌&&◌, ◌||◌, ◌==◌, Option, Some, None, List, [], ◌∷◌, ◌++◌, inl, inr, refl, sym, ap, ◌∙◌, arith}
+use Rattle.std.proofs.Common.{◌≡◌, ◌≢◌, ℕ, zero, suc, ◌+◌, ◌<◌, ◌≤◌, Bool, true, false, not, cond}
+use Rattle.std.proofs.Common.{◌&&◌, ◌||◌, ◌==◌, Option, Some, None, List, [], ◌∷◌, ◌++◌, inl, inr}
+use Rattle.std.proofs.Common.{refl, sym, ap, ◌∙◌, arith}
 use Rattle.std.specs.List.{filter, list_any, IsDistinct, AllByRecursion}
 use Rattle.std.proofs.lemmas.Cmp.{nat_eq_equiv}
 use Rattle.std.proofs.Math.Bool.{and-true, and-false, or_comm, or-false}
-use Rattle.std.proofs.lemmas.Bool.{cases_eq, cases_lt, eqb-true, eq-eqb, ne_eqb, or_from, or_parts, true≢false}
+use Rattle.std.proofs.lemmas.Bool.{cases_eq, cases_lt, eqb-true, eq-eqb, ne_eqb, or_from, or_parts}
+use Rattle.std.proofs.lemmas.Bool.{true≢false}
 use Rattle.std.proofs.lemmas.List.Folds.{list_any-append}
-use Rattle.std.proofs.lemmas.Map.Keys.{IsDistinct-head, IsDistinct-tail, IsDistinct-cons, IsDistinct-push}
+use Rattle.std.proofs.lemmas.Map.Keys.{IsDistinct-head, IsDistinct-tail, IsDistinct-cons}
+use Rattle.std.proofs.lemmas.Map.Keys.{IsDistinct-push}
 use Rattle.std.proofs.lemmas.Map.Views.{any-filter_same}
 use Rattle.std.specs.Prelude.{MatchOption}
 use Rattle.bittle.specs.PlainSet.{PlainSet, complement, is_in_span, size}
@@ -14,11 +18,16 @@ use Rattle.bittle_bits.proofs.Spans.{is_in_span-inside, is_in_span-outside}
 use Rattle.bittle_ext.specs.Runs.{IsFirstRun}
 use Rattle.bittle_ext.proofs.RunCounts.{run_is_unset}
 use Rattle.bit_histories.specs.Histories.{total}
-use Rattle.bit_pages.specs.PageLaws.{IsLeastFree, asks_back, hands_out, pages_back, pages_handed_out, held_with, held_after, held_after_list, outstanding, gives_back, came_back, AreOutstanding}
-use Rattle.bit_pages.specs.Pages.{is_taken, is_free_page, is_run_taken, least_free, first_free_run, page_or_full, run_or_none, answer_to, state_after, request_answers, final_state}
+use Rattle.bit_pages.specs.PageLaws.{IsLeastFree, asks_back, hands_out, pages_back}
+use Rattle.bit_pages.specs.PageLaws.{pages_handed_out, held_with, held_after, held_after_list}
+use Rattle.bit_pages.specs.PageLaws.{outstanding, gives_back, came_back, AreOutstanding}
+use Rattle.bit_pages.specs.Pages.{is_taken, is_free_page, is_run_taken, least_free, first_free_run}
+use Rattle.bit_pages.specs.Pages.{page_or_full, run_or_none, answer_to, state_after}
+use Rattle.bit_pages.specs.Pages.{request_answers, final_state}
 use Rattle.bit_pages.specs.declared.Answer.TheVariants as answer
 use Rattle.bit_pages.specs.declared.Request.{Request}
-use Rattle.bit_pages.specs.declared.Request.TheVariants.{Take, TakeAt, GiveBack, TakeRun, GiveBackRun}
+use Rattle.bit_pages.specs.declared.Request.TheVariants.{Take, TakeAt, GiveBack, TakeRun}
+use Rattle.bit_pages.specs.declared.Request.TheVariants.{GiveBackRun}
 use Rattle.bit_pages.proofs.FreeRuns.{first_free_run-is}
 use Rattle.bit_pages.proofs.LeastFree.{least_free-is, free_page}
 use Rattle.bit_pages.proofs.PageSteps.{step}
@@ -211,7 +220,8 @@ module _ (s : PlainSet) (held : List ℕ) (kept : ℕ → Bool) (h : AreHeld s h
 
   held_back : (request : Request) (b : Bool) →
       AreHeldAfter held (held_after held request (cond b answer.Given answer.NotTaken))
-      (hands_out request (cond b answer.Given answer.NotTaken)) (λ page. asks_back request page && b)
+      (hands_out request (cond b answer.Given answer.NotTaken))
+      (λ page. asks_back request page && b)
   held_back request false = same_held held (λ page. asks_back request page && false)
       (λ page. and-false (asks_back request page)) h.distinct
   held_back request true = record {
@@ -263,13 +273,15 @@ held_on_list s held kept [] h = record {
 held_on_list s held kept (request ∷ requests) h =
     let next = state_after s request in
     let later = held_on_list next (held_after held request (answer_to s request))
-    (λ page. kept page && not (gives_back s request page)) requests (held_on s held kept h request) in
+    (λ page. kept page && not (gives_back s request page)) requests
+    (held_on s held kept h request) in
     let twice = λ (page : ℕ). kept_twice (kept page) (gives_back s request page)
     (came_back next requests page) in record {
       distinct = later.distinct;
       apart = λ page e. sym (twice page) ∙ later.apart page e;
       taken = λ page. later.taken page
-          ∙ ap (λ b. list_any (◌==◌ page) (held_after_list held s (request ∷ requests)) || b) (twice page);
+          ∙ ap (λ b. list_any (◌==◌ page) (held_after_list held s (request ∷ requests))
+          || b) (twice page);
     }
 
 -- the pages outstanding after a list of requests

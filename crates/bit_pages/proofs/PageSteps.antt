@@ -1,17 +1,24 @@
 -- What one request does: which pages it hands out, which come back, and how many.
-use Rattle.std.proofs.Common.{◌≡◌, ℕ, ◌+◌, ◌<◌, ◌≤◌, ◌⊎◌, Bool, true, false, not, cond, ◌&&◌, ◌||◌, ◌==◌, nat_le, nat_lt, Option, Some, None, inl, inr, refl, sym, ap, ◌∙◌, arith}
+use Rattle.std.proofs.Common.{◌≡◌, ℕ, ◌+◌, ◌<◌, ◌≤◌, ◌⊎◌, Bool, true, false, not, cond, ◌&&◌, ◌||◌}
+use Rattle.std.proofs.Common.{◌==◌, nat_le, nat_lt, Option, Some, None, inl, inr, refl, sym, ap}
+use Rattle.std.proofs.Common.{◌∙◌, arith}
 use Rattle.std.proofs.Math.Bool.{and-true, and-false}
-use Rattle.std.proofs.lemmas.Bool.{cases_Bool, eqb-true, leb-true, ltb-true, and_parts, or_left, or_right, true≢false}
+use Rattle.std.proofs.lemmas.Bool.{cases_Bool, eqb-true, leb-true, ltb-true, and_parts, or_left}
+use Rattle.std.proofs.lemmas.Bool.{or_right, true≢false}
 use Rattle.std.specs.Prelude.{MatchOption}
 use Rattle.bittle.specs.PlainSet.{PlainSet, complement, has_changed, is_in_span, size, without_span}
 use Rattle.bittle.proofs.CallerChanges.{size_added, size_removed}
 use Rattle.bittle_ext.specs.Runs.{IsFirstRun}
 use Rattle.bittle_ext.proofs.RunCounts.{run_is_unset, size_with_run}
-use Rattle.bit_pages.specs.PageLaws.{IsLeastFree, asks_back, hands_out, gives_back, pages_back, pages_handed_out}
-use Rattle.bit_pages.specs.Pages.{is_taken, is_free_page, is_run_taken, least_free, first_free_run, page_or_full, run_or_none, with_found, with_page, with_run, without_page, answer_to, state_after}
+use Rattle.bit_pages.specs.PageLaws.{IsLeastFree, asks_back, hands_out, gives_back, pages_back}
+use Rattle.bit_pages.specs.PageLaws.{pages_handed_out}
+use Rattle.bit_pages.specs.Pages.{is_taken, is_free_page, is_run_taken, least_free, first_free_run}
+use Rattle.bit_pages.specs.Pages.{page_or_full, run_or_none, with_found, with_page, with_run}
+use Rattle.bit_pages.specs.Pages.{without_page, answer_to, state_after}
 use Rattle.bit_pages.specs.declared.Answer.TheVariants as answer
 use Rattle.bit_pages.specs.declared.Request.{Request}
-use Rattle.bit_pages.specs.declared.Request.TheVariants.{Take, TakeAt, GiveBack, TakeRun, GiveBackRun}
+use Rattle.bit_pages.specs.declared.Request.TheVariants.{Take, TakeAt, GiveBack, TakeRun}
+use Rattle.bit_pages.specs.declared.Request.TheVariants.{GiveBackRun}
 use Rattle.bit_pages.proofs.FreeRuns.{first_free_run-is, run_taken}
 use Rattle.bit_pages.proofs.LeastFree.{least_free-is, free_page, taken-within, taken-member}
 use Rattle.bit_pages.proofs.RunCounts.{given_counts}
@@ -127,7 +134,8 @@ back_run_step s f n true is = record {
 
 -- each request is a step
 pub step : (s : PlainSet) (request : Request) →
-    IsStep s (state_after s request) (hands_out request (answer_to s request)) (gives_back s request)
+    IsStep s (state_after s request) (hands_out request (answer_to s request))
+    (gives_back s request)
     (pages_handed_out request (answer_to s request)) (pages_back request (answer_to s request))
 step s Take = page_step s (least_free s) (least_free-is s)
 step s (TakeAt p) = chosen_step s p (is_free_page s p) refl

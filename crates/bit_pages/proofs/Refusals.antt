@@ -1,16 +1,20 @@
 -- Which requests are refused, and which change nothing.
-use Rattle.std.proofs.Common.{◌≡◌, ℕ, ◌+◌, ◌⊎◌, Bool, true, false, cond, Option, Some, None, inl, inr, refl, sym, ap, ◌∙◌, arith}
+use Rattle.std.proofs.Common.{◌≡◌, ℕ, ◌+◌, ◌⊎◌, Bool, true, false, cond, Option, Some, None, inl}
+use Rattle.std.proofs.Common.{inr, refl, sym, ap, ◌∙◌, arith}
 use Rattle.std.proofs.lemmas.Bool.{true≢false}
 use Rattle.std.specs.Prelude.{◌↔◌}
 use Rattle.bittle.specs.PlainSet.{PlainSet, size, without_span}
 use Rattle.bittle_bits.proofs.Spans.{changed-none}
 use Rattle.bittle_ext.specs.Runs.{IsRun}
 use Rattle.bit_pages.specs.PageLaws.{is_refused, length_of, pages_back, pages_handed_out}
-use Rattle.bit_pages.specs.Pages.{is_taken, is_free_page, is_run_taken, least_free, first_free_run, page_or_full, run_or_none, with_found, with_page, with_run, without_page, answer_to, state_after}
+use Rattle.bit_pages.specs.Pages.{is_taken, is_free_page, is_run_taken, least_free, first_free_run}
+use Rattle.bit_pages.specs.Pages.{page_or_full, run_or_none, with_found, with_page, with_run}
+use Rattle.bit_pages.specs.Pages.{without_page, answer_to, state_after}
 use Rattle.bit_pages.specs.declared.Answer.{Answer}
 use Rattle.bit_pages.specs.declared.Answer.TheVariants as answer
 use Rattle.bit_pages.specs.declared.Request.{Request}
-use Rattle.bit_pages.specs.declared.Request.TheVariants.{Take, TakeAt, GiveBack, TakeRun, GiveBackRun}
+use Rattle.bit_pages.specs.declared.Request.TheVariants.{Take, TakeAt, GiveBack, TakeRun}
+use Rattle.bit_pages.specs.declared.Request.TheVariants.{GiveBackRun}
 use Rattle.bit_pages.proofs.FreeRuns.{run_taken, taken_run}
 use Rattle.bit_pages.proofs.PageSteps.{step}
 
@@ -69,7 +73,8 @@ idle_is_unchanged s (GiveBackRun f n) idle = by (is_run_taken s f n) idle
     by true (inl e) = absurd (cc)
     by true (inr e) = changed-none (λ _. false) s f (f + n) (omega (arith, e))
 
--- a request changes nothing exactly if it is refused, or if it takes or gives back a run of length 0
+-- a request changes nothing exactly if it is refused, or if it takes or gives back a run of length
+-- 0
 pub unchanged_is_refused : (s : PlainSet) (request : Request) → (state_after s request ≡ s)
     ↔ ((is_refused (answer_to s request) ≡ true) ⊎ (length_of request ≡ 0))
 unchanged_is_refused s request = (unchanged_is_idle s request, idle_is_unchanged s request)

@@ -1,8 +1,10 @@
 -- The map after a run of pages is taken or given back: which pages are taken then, and how many.
-use Rattle.std.proofs.Common.{◌≡◌, ℕ, ◌+◌, ◌≤◌, Bool, true, false, not, ◌&&◌, cond, nat_lt, refl, sym, ap, ◌∙◌, arith}
+use Rattle.std.proofs.Common.{◌≡◌, ℕ, ◌+◌, ◌≤◌, Bool, true, false, not, ◌&&◌, cond, nat_lt, refl}
+use Rattle.std.proofs.Common.{sym, ap, ◌∙◌, arith}
 use Rattle.std.specs.Prelude.{◌↔◌, IsTrue, MatchBool}
 use Rattle.std.proofs.lemmas.Bool.{true≢false}
-use Rattle.bittle.specs.PlainSet.{PlainSet, complement, has_changed, is_in_span, size, with_span, with_span_changed, without_span}
+use Rattle.bittle.specs.PlainSet.{PlainSet, complement, has_changed, is_in_span, size, with_span}
+use Rattle.bittle.specs.PlainSet.{with_span_changed, without_span}
 use Rattle.bittle.specs.Searches.{NoneIn}
 use Rattle.bittle.proofs.CallerSets.{complement_within}
 use Rattle.bittle_bits.proofs.Spans.{inside_span, outside_span}

@@ -1,14 +1,18 @@
 -- Laws of the page machine, for all requests and all lists of requests.
 use Rattle.std.specs.List.{filter, list_any, IsDistinct}
-use Rattle.std.specs.Prelude.{◌≡◌, ℕ, zero, suc, ◌+◌, ◌<◌, ◌≤◌, ◌↔◌, ◌⊎◌, Bool, true, false, not, ◌&&◌, ◌||◌, ◌==◌, Some, List, [], ◌∷◌, ◌++◌, slice_get}
+use Rattle.std.specs.Prelude.{◌≡◌, ℕ, zero, suc, ◌+◌, ◌<◌, ◌≤◌, ◌↔◌, ◌⊎◌, Bool, true, false, not}
+use Rattle.std.specs.Prelude.{◌&&◌, ◌||◌, ◌==◌, Some, List, [], ◌∷◌, ◌++◌, slice_get}
 use Rattle.bittle.specs.PlainSet.{PlainSet, complement, is_in_span, size}
 use Rattle.bittle_ext.specs.Runs.{IsFirstRun, IsRun}
 use Rattle.bit_histories.specs.Histories.{total}
-use Rattle.bit_pages.specs.Pages.{is_taken, is_run_taken, answer_to, state_after, request_answers, final_state}
+use Rattle.bit_pages.specs.Pages.{is_taken, is_run_taken, answer_to, state_after, request_answers}
+use Rattle.bit_pages.specs.Pages.{final_state}
 use Rattle.bit_pages.specs.declared.Request.{Request}
-use Rattle.bit_pages.specs.declared.Request.TheVariants.{Take, TakeAt, GiveBack, TakeRun, GiveBackRun}
+use Rattle.bit_pages.specs.declared.Request.TheVariants.{Take, TakeAt, GiveBack, TakeRun}
+use Rattle.bit_pages.specs.declared.Request.TheVariants.{GiveBackRun}
 use Rattle.bit_pages.specs.declared.Answer.{Answer}
-use Rattle.bit_pages.specs.declared.Answer.TheVariants.{Page, Full, NotFree, Given, NotTaken, Run, NoRun}
+use Rattle.bit_pages.specs.declared.Answer.TheVariants.{Page, Full, NotFree, Given, NotTaken, Run}
+use Rattle.bit_pages.specs.declared.Answer.TheVariants.{NoRun}
 
 -- the number is a page, it is free, and all pages below it are taken
 pub record IsLeastFree (s : PlainSet) (page : ℕ) : Type 0 where
@@ -91,7 +95,8 @@ is_refused NotTaken = true
 is_refused (Run first) = false
 is_refused NoRun = true
 
--- a request changes nothing exactly if it is refused, or if it takes or gives back a run of length 0
+-- a request changes nothing exactly if it is refused, or if it takes or gives back a run of length
+-- 0
 abbrev pub UnchangedExactlyIfRefused : Type 0
 UnchangedExactlyIfRefused =
     (s : PlainSet) (request : Request)
@@ -100,7 +105,8 @@ UnchangedExactlyIfRefused =
 
 -- no list of requests changes how many pages there are
 abbrev pub PagesStay : Type 0
-PagesStay = (s : PlainSet) (requests : List Request) → (final_state s requests).capacity ≡ s.capacity
+PagesStay = (s : PlainSet) (requests : List Request) →
+    (final_state s requests).capacity ≡ s.capacity
 
 -- in every list, each page that is answered is below the number of pages, and each run that is
 -- answered ends at or below it

@@ -1,6 +1,7 @@
 -- Laws of every list of events, for any machine with these properties: only ready tasks run, a task
 -- that runs or is removed is no longer ready, and a task becomes ready only by a wake.
-use Rattle.std.proofs.Common.{◌≡◌, ℕ, zero, suc, ◌+◌, ◌<◌, ◌⊎◌, Bool, true, false, List, [], ◌∷◌, Some, inl, inr, sym, ap, ◌∙◌, arith}
+use Rattle.std.proofs.Common.{◌≡◌, ℕ, zero, suc, ◌+◌, ◌<◌, ◌⊎◌, Bool, true, false, List, [], ◌∷◌}
+use Rattle.std.proofs.Common.{Some, inl, inr, sym, ap, ◌∙◌, arith}
 use Rattle.std.specs.List.{fold, scan}
 use Rattle.std.specs.Prelude.{slice_get}
 use Rattle.std.proofs.lemmas.Bool.{cases_Bool, true≢false}

@@ -1,13 +1,21 @@
 -- What follows from the queue machine for every list of events.
-use Rattle.std.proofs.Common.{◌≡◌, ℕ, zero, suc, ◌+◌, ◌<◌, ◌≤◌, ◌⊎◌, Bool, true, false, not, cond, ◌&&◌, ◌||◌, ◌==◌, nat_lt, Option, Some, None, List, [], ◌∷◌, inl, inr, refl, sym, ap, ◌∙◌, subst, arith}
+use Rattle.std.proofs.Common.{◌≡◌, ℕ, zero, suc, ◌+◌, ◌<◌, ◌≤◌, ◌⊎◌, Bool, true, false, not, cond}
+use Rattle.std.proofs.Common.{◌&&◌, ◌||◌, ◌==◌, nat_lt, Option, Some, None, List, [], ◌∷◌, inl, inr}
+use Rattle.std.proofs.Common.{refl, sym, ap, ◌∙◌, subst, arith}
 use Rattle.std.specs.List.{count_by, fold, scan}
 use Rattle.std.specs.Prelude.{◌↔◌, MatchOption}
-use Rattle.std.proofs.lemmas.Bool.{cases_eq, cases_Bool, cases_lt, lt-ltb, ltb-true, le-ltb, eq-eqb, ne_eqb, or_right, and_parts, and_right, true≢false}
+use Rattle.std.proofs.lemmas.Bool.{cases_eq, cases_Bool, cases_lt, lt-ltb, ltb-true, le-ltb, eq-eqb}
+use Rattle.std.proofs.lemmas.Bool.{ne_eqb, or_right, and_parts, and_right, true≢false}
 use Rattle.bittle.specs.PlainSet.{PlainSet, members_below}
 use Rattle.bittle.specs.Searches.{NoneIn}
-use Rattle.bit_queue.specs.Queue.{is_ready, most_urgent, with_task, without_task, with_woken, removed_or_not, with_removed, runs_or_idle, without_picked, answer_to, state_after, event_answers, final_state}
-use Rattle.bit_queue.specs.QueueLaws.{IsMostUrgent, IsWokenFirst, IsWokenBetween, IsWokenAfterRemovals, IsLeftReady, is_next, wakes_more_urgent, IsTakenIn}
-use Rattle.bit_queue.specs.declared.Answer.TheVariants.{Woken, NoTask, Removed, NotReady, Runs, Idle}
+use Rattle.bit_queue.specs.Queue.{is_ready, most_urgent, with_task, without_task, with_woken}
+use Rattle.bit_queue.specs.Queue.{removed_or_not, with_removed, runs_or_idle, without_picked}
+use Rattle.bit_queue.specs.Queue.{answer_to, state_after, event_answers, final_state}
+use Rattle.bit_queue.specs.QueueLaws.{IsMostUrgent, IsWokenFirst, IsWokenBetween}
+use Rattle.bit_queue.specs.QueueLaws.{IsWokenAfterRemovals, IsLeftReady, is_next, wakes_more_urgent}
+use Rattle.bit_queue.specs.QueueLaws.{IsTakenIn}
+use Rattle.bit_queue.specs.declared.Answer.TheVariants.{Woken, NoTask, Removed, NotReady, Runs}
+use Rattle.bit_queue.specs.declared.Answer.TheVariants.{Idle}
 use Rattle.bit_queue.specs.declared.Event.{Event}
 use Rattle.bit_queue.specs.declared.Event.TheVariants.{Wake, Remove, Next}
 use Rattle.bittle.proofs.Replies.{run_keeps}

@@ -1,22 +1,39 @@
 -- What follows from the round-robin machine for every list of events.
-use Rattle.std.proofs.Common.{◌≡◌, ℕ, zero, suc, ◌+◌, ◌<◌, ◌≤◌, ◌⊎◌, Bool, true, false, not, cond, ◌&&◌, ◌||◌, ◌==◌, nat_lt, Option, Some, None, List, [], ◌∷◌, inl, inr, refl, sym, ap, ◌∙◌, subst, arith}
+use Rattle.std.proofs.Common.{◌≡◌, ℕ, zero, suc, ◌+◌, ◌<◌, ◌≤◌, ◌⊎◌, Bool, true, false, not, cond}
+use Rattle.std.proofs.Common.{◌&&◌, ◌||◌, ◌==◌, nat_lt, Option, Some, None, List, [], ◌∷◌, inl, inr}
+use Rattle.std.proofs.Common.{refl, sym, ap, ◌∙◌, subst, arith}
 use Rattle.std.specs.List.{count_by, fold, scan, list_any}
 use Rattle.std.specs.Prelude.{◌↔◌, MatchOption, slice_get}
-use Rattle.std.proofs.lemmas.Bool.{cases_eq, cases_Bool, cases_lt, or_right, and_parts, and_right, true≢false}
+use Rattle.std.proofs.lemmas.Bool.{cases_eq, cases_Bool, cases_lt, or_right, and_parts, and_right}
+use Rattle.std.proofs.lemmas.Bool.{true≢false}
 use Rattle.bittle.specs.PlainSet.{PlainSet, count_below, size}
 use Rattle.bittle.specs.Searches.{NoneIn}
 use Rattle.bittle.proofs.CallerSets.{size_at_most}
 use Rattle.bit_queue.specs.Queue.{is_ready, with_task, without_task, runs_or_idle}
-use Rattle.bit_queue.specs.QueueLaws.{IsWokenFirst, IsWokenBetween, IsWokenAfterRemovals, IsLeftReady, is_next, IsTakenAt, IsTakenIn}
-use Rattle.bit_queue.specs.RoundRobin.{Round, round_at, next_in_turn, past_picked, answer_in_turn, round_after, answers_in_turn, final_round}
-use Rattle.bit_queue.specs.RoundRobinLaws.{comes_before, IsNextInTurn, turn_after, wakes, ever_ready}
-use Rattle.bit_queue.specs.declared.Answer.TheVariants.{Woken, NoTask, Removed, NotReady, Runs, Idle}
+use Rattle.bit_queue.specs.QueueLaws.{IsWokenFirst, IsWokenBetween, IsWokenAfterRemovals}
+use Rattle.bit_queue.specs.QueueLaws.{IsLeftReady, is_next, IsTakenAt, IsTakenIn}
+use Rattle.bit_queue.specs.RoundRobin.{Round, round_at, next_in_turn, past_picked, answer_in_turn}
+use Rattle.bit_queue.specs.RoundRobin.{round_after, answers_in_turn, final_round}
+use Rattle.bit_queue.specs.RoundRobinLaws.{comes_before, IsNextInTurn, turn_after, wakes}
+use Rattle.bit_queue.specs.RoundRobinLaws.{ever_ready}
+use Rattle.bit_queue.specs.declared.Answer.TheVariants.{Woken, NoTask, Removed, NotReady, Runs}
+use Rattle.bit_queue.specs.declared.Answer.TheVariants.{Idle}
 use Rattle.bit_queue.specs.declared.Event.{Event}
 use Rattle.bit_queue.specs.declared.Event.TheVariants.{Wake, Remove, Next}
 use Rattle.bittle.proofs.Replies.{run_keeps}
 use Rattle.bit_queue.proofs.Counting.{counts_less, counts_item}
-use Rattle.bit_queue.proofs.QueueLaws.{changes_nothing, woken_is_no_run, woken_is_not_idle, woken_is_no_task, woken_is_not_removed, woken_is_not_refused, removed_is_no_run, removed_is_not_idle, removed_is_no_no_task, removed_if_ready, refused_if_not_ready, run_is_no_no_task, run_is_not_removed, run_is_not_refused, run_is_picked, others_stay, out_rests, out_others, still_rests, wakes_alone, wakes_keep, wakes_spare, still_ready, woken_ready, removes_alone, removed_not_ready, removals_keep, removals_spare, removals_leave, removals_add_none, ready_parts, is_member}
-use Rattle.bit_queue.proofs.Turns.{Comes, comes_is, comes_from, comes_not, comes_either, next_in_turn-is}
+use Rattle.bit_queue.proofs.QueueLaws.{changes_nothing, woken_is_no_run, woken_is_not_idle}
+use Rattle.bit_queue.proofs.QueueLaws.{woken_is_no_task, woken_is_not_removed, woken_is_not_refused}
+use Rattle.bit_queue.proofs.QueueLaws.{removed_is_no_run, removed_is_not_idle}
+use Rattle.bit_queue.proofs.QueueLaws.{removed_is_no_no_task, removed_if_ready}
+use Rattle.bit_queue.proofs.QueueLaws.{refused_if_not_ready, run_is_no_no_task, run_is_not_removed}
+use Rattle.bit_queue.proofs.QueueLaws.{run_is_not_refused, run_is_picked, others_stay, out_rests}
+use Rattle.bit_queue.proofs.QueueLaws.{out_others, still_rests, wakes_alone, wakes_keep}
+use Rattle.bit_queue.proofs.QueueLaws.{wakes_spare, still_ready, woken_ready, removes_alone}
+use Rattle.bit_queue.proofs.QueueLaws.{removed_not_ready, removals_keep, removals_spare}
+use Rattle.bit_queue.proofs.QueueLaws.{removals_leave, removals_add_none, ready_parts, is_member}
+use Rattle.bit_queue.proofs.Turns.{Comes, comes_is, comes_from, comes_not, comes_either}
+use Rattle.bit_queue.proofs.Turns.{next_in_turn-is}
 use Rattle.bit_queue.proofs.Urgency.{ready-member}
 use Rattle.bit_queue.proofs.Histories as histories
 

@@ -1,13 +1,18 @@
 -- The most urgent ready task, and how a search finds it.
-use Rattle.std.proofs.Common.{◌≡◌, ℕ, ◌+◌, ◌<◌, ◌≤◌, ◌↔◌, Bool, true, false, not, cond, ◌&&◌, ◌||◌, ◌==◌, nat_lt, Option, Some, None, List, [], ◌∷◌, inl, inr, refl, sym, ap, ◌∙◌, subst, arith}
-use Rattle.std.proofs.lemmas.Bool.{cases_lt, eq-eqb, eqb-true, ne_eqb, lt-ltb, ltb-true, and_parts, and_right, true≢false}
+use Rattle.std.proofs.Common.{◌≡◌, ℕ, ◌+◌, ◌<◌, ◌≤◌, ◌↔◌, Bool, true, false, not, cond, ◌&&◌, ◌||◌}
+use Rattle.std.proofs.Common.{◌==◌, nat_lt, Option, Some, None, List, [], ◌∷◌, inl, inr, refl, sym}
+use Rattle.std.proofs.Common.{ap, ◌∙◌, subst, arith}
+use Rattle.std.proofs.lemmas.Bool.{cases_lt, eq-eqb, eqb-true, ne_eqb, lt-ltb, ltb-true, and_parts}
+use Rattle.std.proofs.lemmas.Bool.{and_right, true≢false}
 use Rattle.std.specs.Prelude.{MatchOption, IsTrue, slice_get}
 use Rattle.bittle.specs.PlainSet.{PlainSet, ascending, contains, with_index, without_index, size}
 use Rattle.bittle.specs.Searches.{NoneIn, IsFirstIn}
 use Rattle.bittle.proofs.CallerLists.{ascending_none, ascending_first}
 use Rattle.bittle.proofs.CallerChanges.{size_inserted, size_without}
-use Rattle.bittle.proofs.CallerSets.{contains_within, with_index_within, without_index_within, size_none, size_zero}
-use Rattle.bit_queue.specs.Queue.{is_ready, most_urgent, with_task, without_task, with_woken, with_removed}
+use Rattle.bittle.proofs.CallerSets.{contains_within, with_index_within, without_index_within}
+use Rattle.bittle.proofs.CallerSets.{size_none, size_zero}
+use Rattle.bit_queue.specs.Queue.{is_ready, most_urgent, with_task, without_task, with_woken}
+use Rattle.bit_queue.specs.Queue.{with_removed}
 use Rattle.bit_queue.specs.QueueLaws.{IsMostUrgent}
 
 -- `most_urgent` is the most urgent ready task, or None if no task is ready

@@ -7,7 +7,8 @@ use Rattle.bittle.specs.PlainSet.{PlainSet, ascending}
 use Rattle.bit_queue.specs.declared.Event.{Event}
 use Rattle.bit_queue.specs.declared.Event.TheVariants.{Wake, Remove, Next}
 use Rattle.bit_queue.specs.declared.Answer.{Answer}
-use Rattle.bit_queue.specs.declared.Answer.TheVariants.{Woken, NoTask, Removed, NotReady, Runs, Idle}
+use Rattle.bit_queue.specs.declared.Answer.TheVariants.{Woken, NoTask, Removed, NotReady, Runs}
+use Rattle.bit_queue.specs.declared.Answer.TheVariants.{Idle}
 
 -- whether the number is a task, and ready
 abbrev pub is_ready : PlainSet → ℕ → Bool

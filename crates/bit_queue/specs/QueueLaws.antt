@@ -1,6 +1,7 @@
 -- Laws of the queue machine, for all events.
 use Rattle.std.specs.List.{count_by}
-use Rattle.std.specs.Prelude.{◌≡◌, ℕ, ◌+◌, ◌<◌, ◌≤◌, ◌↔◌, ◌⊎◌, Bool, true, false, nat_lt, Some, List, slice_get}
+use Rattle.std.specs.Prelude.{◌≡◌, ℕ, ◌+◌, ◌<◌, ◌≤◌, ◌↔◌, ◌⊎◌, Bool, true, false, nat_lt, Some}
+use Rattle.std.specs.Prelude.{List, slice_get}
 use Rattle.bittle.specs.PlainSet.{PlainSet, members_below}
 use Rattle.bittle.specs.Searches.{NoneIn}
 use Rattle.bit_queue.specs.Queue.{is_ready, answer_to, state_after, event_answers, final_state}

@@ -4,7 +4,8 @@ use Rattle.std.specs.List.{fold, scan}
 use Rattle.std.specs.Prelude.{ℕ, ◌+◌, ◌&&◌, nat_le}
 use Rattle.std.specs.Prelude.{Option, Some, None, List}
 use Rattle.bittle.specs.PlainSet.{PlainSet}
-use Rattle.bit_queue.specs.Queue.{most_urgent, without_task, woken_or_none, with_woken, removed_or_not, with_removed, runs_or_idle}
+use Rattle.bit_queue.specs.Queue.{most_urgent, without_task, woken_or_none, with_woken}
+use Rattle.bit_queue.specs.Queue.{removed_or_not, with_removed, runs_or_idle}
 use Rattle.bit_queue.specs.declared.Event.{Event}
 use Rattle.bit_queue.specs.declared.Event.TheVariants.{Wake, Remove, Next}
 use Rattle.bit_queue.specs.declared.Answer.{Answer}

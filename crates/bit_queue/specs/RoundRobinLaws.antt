@@ -1,15 +1,19 @@
 -- Laws of the round-robin machine, for all events.
 use Rattle.std.specs.List.{count_by, fold, list_any}
-use Rattle.std.specs.Prelude.{◌≡◌, ℕ, ◌+◌, ◌<◌, ◌≤◌, ◌↔◌, ◌⊎◌, Bool, true, false, ◌&&◌, ◌||◌, ◌==◌, nat_le, nat_lt, if◌then◌else◌, Some, List, slice_get}
+use Rattle.std.specs.Prelude.{◌≡◌, ℕ, ◌+◌, ◌<◌, ◌≤◌, ◌↔◌, ◌⊎◌, Bool, true, false, ◌&&◌, ◌||◌, ◌==◌}
+use Rattle.std.specs.Prelude.{nat_le, nat_lt, if◌then◌else◌, Some, List, slice_get}
 use Rattle.bittle.specs.PlainSet.{PlainSet, size}
 use Rattle.bittle.specs.Searches.{NoneIn}
 use Rattle.bit_queue.specs.Queue.{is_ready}
-use Rattle.bit_queue.specs.RoundRobin.{Round, answer_in_turn, round_after, answers_in_turn, final_round}
-use Rattle.bit_queue.specs.QueueLaws.{IsWokenFirst, IsWokenBetween, IsWokenAfterRemovals, IsLeftReady, is_next, IsTakenAt, IsTakenIn}
+use Rattle.bit_queue.specs.RoundRobin.{Round, answer_in_turn, round_after, answers_in_turn}
+use Rattle.bit_queue.specs.RoundRobin.{final_round}
+use Rattle.bit_queue.specs.QueueLaws.{IsWokenFirst, IsWokenBetween, IsWokenAfterRemovals}
+use Rattle.bit_queue.specs.QueueLaws.{IsLeftReady, is_next, IsTakenAt, IsTakenIn}
 use Rattle.bit_queue.specs.declared.Event.{Event}
 use Rattle.bit_queue.specs.declared.Event.TheVariants.{Wake, Remove, Next}
 use Rattle.bit_queue.specs.declared.Answer.{Answer}
-use Rattle.bit_queue.specs.declared.Answer.TheVariants.{Woken, NoTask, Removed, NotReady, Runs, Idle}
+use Rattle.bit_queue.specs.declared.Answer.TheVariants.{Woken, NoTask, Removed, NotReady, Runs}
+use Rattle.bit_queue.specs.declared.Answer.TheVariants.{Idle}
 
 -- whether the task `one` comes before the task `other` in turn: the tasks from the turn on come
 -- first, in increasing order, and then those before the turn, in increasing order too

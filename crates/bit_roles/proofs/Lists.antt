@@ -1,8 +1,11 @@
 -- What a list of requests leaves: the permissions that were granted and kept, and the parents.
-use Rattle.std.proofs.Common.{◌≡◌, ℕ, zero, suc, ◌+◌, ◌<◌, ◌↔◌, ◌⊎◌, Bool, true, false, cond, ◌&&◌, ◌==◌, nat_lt, Option, Some, None, List, [], ◌∷◌, inl, inr, refl, sym, ap, ◌∙◌, arith}
+use Rattle.std.proofs.Common.{◌≡◌, ℕ, zero, suc, ◌+◌, ◌<◌, ◌↔◌, ◌⊎◌, Bool, true, false, cond, ◌&&◌}
+use Rattle.std.proofs.Common.{◌==◌, nat_lt, Option, Some, None, List, [], ◌∷◌, inl, inr, refl, sym}
+use Rattle.std.proofs.Common.{ap, ◌∙◌, arith}
 use Rattle.std.proofs.lemmas.Bool.{cases_eq, eq-eqb, ne_eqb, and_right, true≢false}
 use Rattle.std.proofs.lemmas.Option.{same_Some}
-use Rattle.bit_roles.specs.Roles.{Roles, are_there, may_inherit, with_granted, with_parent, answer_to, roles_after, request_answers, final_roles}
+use Rattle.bit_roles.specs.Roles.{Roles, are_there, may_inherit, with_granted, with_parent}
+use Rattle.bit_roles.specs.Roles.{answer_to, roles_after, request_answers, final_roles}
 use Rattle.bit_roles.specs.RoleLaws.{IsDone, IsKeptFrom, parent_request, SetsNoParentFrom}
 use Rattle.bit_roles.specs.declared.Request.{Request}
 use Rattle.bit_roles.specs.declared.Request.TheVariants.{Grant, Revoke, Inherit, ClearParent}

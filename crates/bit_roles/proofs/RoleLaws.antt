@@ -1,8 +1,13 @@
 -- What follows from the role machine.
-use Rattle.std.proofs.Common.{◌≡◌, ℕ, zero, suc, ◌+◌, ◌<◌, ◌≤◌, ◌↔◌, ◌⊎◌, Bool, true, false, cond, ◌&&◌, ◌==◌, nat_lt, Option, Some, None, List, [], ◌∷◌, inl, inr, refl, sym, ap, subst, ◌∙◌, arith}
-use Rattle.std.proofs.lemmas.Bool.{cases_eq, cases_lt, lt-ltb, ltb-true, eq-eqb, eqb-true, ne_eqb, and_from, and_parts, and_right}
+use Rattle.std.proofs.Common.{◌≡◌, ℕ, zero, suc, ◌+◌, ◌<◌, ◌≤◌, ◌↔◌, ◌⊎◌, Bool, true, false, cond}
+use Rattle.std.proofs.Common.{◌&&◌, ◌==◌, nat_lt, Option, Some, None, List, [], ◌∷◌, inl, inr, refl}
+use Rattle.std.proofs.Common.{sym, ap, subst, ◌∙◌, arith}
+use Rattle.std.proofs.lemmas.Bool.{cases_eq, cases_lt, lt-ltb, ltb-true, eq-eqb, eqb-true, ne_eqb}
+use Rattle.std.proofs.lemmas.Bool.{and_from, and_parts, and_right}
 use Rattle.std.proofs.lemmas.Option.{same_Some}
-use Rattle.bit_roles.specs.Roles.{Roles, parent_of, ancestor, LeadsTo, Allows, AllowsUpTo, HasLesserParents, are_there, may_inherit, with_granted, with_parent, answer_to, roles_after, final_roles, bare_roles}
+use Rattle.bit_roles.specs.Roles.{Roles, parent_of, ancestor, LeadsTo, Allows, AllowsUpTo}
+use Rattle.bit_roles.specs.Roles.{HasLesserParents, are_there, may_inherit, with_granted}
+use Rattle.bit_roles.specs.Roles.{with_parent, answer_to, roles_after, final_roles, bare_roles}
 use Rattle.bit_roles.specs.RoleLaws.{IsPossible}
 use Rattle.bit_roles.specs.declared.Request.{Request}
 use Rattle.bit_roles.specs.declared.Request.TheVariants.{Grant, Revoke, Inherit, ClearParent}

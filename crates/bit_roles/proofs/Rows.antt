@@ -1,11 +1,14 @@
 -- A row after a write to one place, and the roles that it stands for then.
-use Rattle.std.proofs.Common.{◌≡◌, ℕ, zero, suc, ◌<◌, Bool, true, false, not, cond, ◌&&◌, ◌||◌, ◌==◌, nat_lt, Option, Some, None, List, length, set, inl, inr, refl, sym, ap, ◌∙◌, arith}
+use Rattle.std.proofs.Common.{◌≡◌, ℕ, zero, suc, ◌<◌, Bool, true, false, not, cond, ◌&&◌, ◌||◌}
+use Rattle.std.proofs.Common.{◌==◌, nat_lt, Option, Some, None, List, length, set, inl, inr, refl}
+use Rattle.std.proofs.Common.{sym, ap, ◌∙◌, arith}
 use Rattle.std.proofs.Math.ListN.{replicate}
 use Rattle.std.specs.Prelude.{slice_get, IfSome}
 use Rattle.bittle.specs.PlainSet.{PlainSet, contains, with_index, without_index}
 use Rattle.bittle.proofs.CallerSets.{contains_within, with_index_within, without_index_within}
 use Rattle.bittle.proofs.CallerTables.{slice_get_set, slice_get_set_same, slice_get_set_other}
-use Rattle.bit_roles.specs.Roles.{Roles, bare_roles, roles_of, has_permission, parent_in, with_granted, with_parent}
+use Rattle.bit_roles.specs.Roles.{Roles, bare_roles, roles_of, has_permission, parent_in}
+use Rattle.bit_roles.specs.Roles.{with_granted, with_parent}
 use Rattle.bit_roles.proofs.RoleLaws.{changed, less_both}
 use Rattle.std.proofs.lemmas.Bool.{and_right, cases_eq, eq-eqb, ne_eqb, lt-ltb}
 

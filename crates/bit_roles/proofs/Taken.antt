@@ -1,11 +1,16 @@
 -- What roles allow after a permission or a parent was taken from one of them.
-use Rattle.std.proofs.Common.{◌≡◌, ℕ, ◌<◌, ◌↔◌, Bool, true, false, cond, ◌&&◌, ◌==◌, nat_lt, Some, None, inl, inr, refl, sym, ap, subst, ◌∙◌, arith}
+use Rattle.std.proofs.Common.{◌≡◌, ℕ, ◌<◌, ◌↔◌, Bool, true, false, cond, ◌&&◌, ◌==◌, nat_lt, Some}
+use Rattle.std.proofs.Common.{None, inl, inr, refl, sym, ap, subst, ◌∙◌, arith}
 use Rattle.std.proofs.lemmas.Bool.{cases_eq, eq-eqb, ne_eqb, and_from, and_right, true≢false}
-use Rattle.bit_roles.specs.Roles.{Roles, ancestor, LeadsTo, Allows, AllowsUpTo, HasLesserParents, are_there, with_granted, with_parent, answer_to, roles_after}
+use Rattle.bit_roles.specs.Roles.{Roles, ancestor, LeadsTo, Allows, AllowsUpTo, HasLesserParents}
+use Rattle.bit_roles.specs.Roles.{are_there, with_granted, with_parent, answer_to, roles_after}
 use Rattle.bit_roles.specs.declared.Request.TheVariants.{Revoke, ClearParent}
 use Rattle.bit_roles.specs.declared.Answer.{Answer}
 use Rattle.bit_roles.specs.declared.Answer.TheVariants.{Done, Refused}
-use Rattle.bit_roles.proofs.RoleLaws.{allows_granted, allows_up, allows_by_parent, chain_goes_down, same_chain, changed, now_granted, chain_up_to, first_place, later_place, up_to_stays, parent_now, done_exactly, refused_keeps}
+use Rattle.bit_roles.proofs.RoleLaws.{allows_granted, allows_up, allows_by_parent, chain_goes_down}
+use Rattle.bit_roles.proofs.RoleLaws.{same_chain, changed, now_granted, chain_up_to, first_place}
+use Rattle.bit_roles.proofs.RoleLaws.{later_place, up_to_stays, parent_now, done_exactly}
+use Rattle.bit_roles.proofs.RoleLaws.{refused_keeps}
 
 -- what is true after a test that may make it false was not tested, and was true before
 not_taken : (a b : Bool) → cond a false b ≡ true → (a ≡ false) × (b ≡ true)

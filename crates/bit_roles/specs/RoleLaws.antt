@@ -1,6 +1,8 @@
 -- Laws of the role machine, for all requests.
-use Rattle.std.specs.Prelude.{◌≡◌, ℕ, suc, ◌+◌, ◌<◌, ◌≤◌, ◌↔◌, ◌⊎◌, true, Option, Some, None, List, slice_get}
-use Rattle.bit_roles.specs.Roles.{Roles, ancestor, LeadsTo, Allows, AllowsUpTo, HasLesserParents, answer_to, roles_after, request_answers, final_roles, bare_roles}
+use Rattle.std.specs.Prelude.{◌≡◌, ℕ, suc, ◌+◌, ◌<◌, ◌≤◌, ◌↔◌, ◌⊎◌, true, Option, Some, None, List}
+use Rattle.std.specs.Prelude.{slice_get}
+use Rattle.bit_roles.specs.Roles.{Roles, ancestor, LeadsTo, Allows, AllowsUpTo, HasLesserParents}
+use Rattle.bit_roles.specs.Roles.{answer_to, roles_after, request_answers, final_roles, bare_roles}
 use Rattle.bit_roles.specs.declared.Request.{Request}
 use Rattle.bit_roles.specs.declared.Request.TheVariants.{Grant, Revoke, Inherit, ClearParent}
 use Rattle.bit_roles.specs.declared.Answer.{Answer}

@@ -1,7 +1,8 @@
 -- The role machine: its state tells which permissions each role was granted and which parent the
 -- role has, and each request has an answer and a next state. Roles and permissions are numbers.
 use Rattle.std.specs.List.{fold, scan}
-use Rattle.std.specs.Prelude.{◌≡◌, ◌≢◌, ℕ, zero, suc, ◌<◌, Bool, true, false, ◌&&◌, ◌==◌, nat_lt, if◌then◌else◌}
+use Rattle.std.specs.Prelude.{◌≡◌, ◌≢◌, ℕ, zero, suc, ◌<◌, Bool, true, false, ◌&&◌, ◌==◌, nat_lt}
+use Rattle.std.specs.Prelude.{if◌then◌else◌}
 use Rattle.std.specs.Prelude.{Option, Some, None, List, slice_get}
 use Rattle.bittle.specs.PlainSet.{PlainSet}
 use Rattle.bit_roles.specs.declared.Request.{Request}

@@ -68,7 +68,8 @@ pub struct Refused;
 impl fmt::Display for Refused {
     ghost use Rattle.std.specs.Prelude.{Some, codes};
 
-    ghost output = { λ _. Some (codes "no such role or permission, or the parent is not less than the role") };
+    ghost output = { λ _. Some
+        (codes "no such role or permission, or the parent is not less than the role") };
 
     fn fmt<W: fmt::Write>(&self, f: &mut fmt::Formatter<W>) -> fmt::Result {
         f.write_str("no such role or permission, or the parent is not less than the role")

@@ -1,11 +1,15 @@
 -- What follows for every history of calls: no key goes back to an earlier stage, a removed key
 -- finds nothing, any other key keeps its value, and no key is given twice.
-use Rattle.std.proofs.Common.{◌≡◌, ◌≢◌, ℕ, zero, suc, ◌<◌, ◌≤◌, Bool, true, false, cond, Option, is_some, List, [], ◌∷◌, Some, None, inl, inr, refl, sym, ap, ◌∙◌, subst, arith}
+use Rattle.std.proofs.Common.{◌≡◌, ◌≢◌, ℕ, zero, suc, ◌<◌, ◌≤◌, Bool, true, false, cond, Option}
+use Rattle.std.proofs.Common.{is_some, List, [], ◌∷◌, Some, None, inl, inr, refl, sym, ap, ◌∙◌}
+use Rattle.std.proofs.Common.{subst, arith}
 use Rattle.std.specs.Prelude.{◌==◌, slice_get}
 use Rattle.std.proofs.lemmas.Bool.{cases_Bool, eq-eqb, eqb-true, and_parts}
 use Rattle.bit_slots.specs.declared.Key.{Key}
-use Rattle.bit_slots.specs.Keys.{Stage, Stages, Unused, Holds, Spent, found, spent, is_key, IsKeyInserted, IsKeyReplaced, IsRemoved, IsUpdated}
-use Rattle.bit_slots.specs.KeyLaws.{Call, Inserts, Removes, Replaces, Refuses, IsCall, IsHistory, PutsAt, SparesFrom, age}
+use Rattle.bit_slots.specs.Keys.{Stage, Stages, Unused, Holds, Spent, found, spent, is_key}
+use Rattle.bit_slots.specs.Keys.{IsKeyInserted, IsKeyReplaced, IsRemoved, IsUpdated}
+use Rattle.bit_slots.specs.KeyLaws.{Call, Inserts, Removes, Replaces, Refuses, IsCall, IsHistory}
+use Rattle.bit_slots.specs.KeyLaws.{PutsAt, SparesFrom, age}
 
 -- a key has its own slot and generation
 is_own : (key : Key) → is_key key key.slot key.generation ≡ true

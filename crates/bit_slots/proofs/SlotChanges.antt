@@ -1,13 +1,17 @@
 -- How a change of one slot changes what the keys stand for.
-use Rattle.std.proofs.Common.{◌≡◌, ℕ, ◌<◌, ◌≤◌, Bool, true, false, List, length, set, get_or, Some, inl, inr, None, refl, ap, ◌∙◌, arith}
+use Rattle.std.proofs.Common.{◌≡◌, ℕ, ◌<◌, ◌≤◌, Bool, true, false, List, length, set, get_or, Some}
+use Rattle.std.proofs.Common.{inl, inr, None, refl, ap, ◌∙◌, arith}
 use Rattle.std.specs.Prelude.{◌==◌, slice_get, Result, Ok, Err}
-use Rattle.std.proofs.lemmas.Bool.{and_parts, cases_Bool, cases_eq, eq-eqb, eqb-true, le-ltb, ne_eqb}
+use Rattle.std.proofs.lemmas.Bool.{and_parts, cases_Bool, cases_eq, eq-eqb, eqb-true, le-ltb}
+use Rattle.std.proofs.lemmas.Bool.{ne_eqb}
 use Rattle.std.proofs.lemmas.Option.{slice_get-get_or, slice_get_past}
 use Rattle.bittle.proofs.CallerTables.{slice_get_set}
 use Rattle.bit_slots.specs.declared.slot.Slot.{Slot}
 use Rattle.bit_slots.specs.declared.slot.Slot.TheVariants.{Live}
 use Rattle.bit_slots.specs.declared.Key.{Key}
-use Rattle.bit_slots.specs.Keys.{Unused, Holds, found, is_key, stage_of, stage_at, stages, removed, AreSameKeys, IsExchanged, IsExchangedWith, IsFilled, IsKeyInserted, IsRemoved, IsReplaced, IsUpdated, IsUpdatedIn}
+use Rattle.bit_slots.specs.Keys.{Unused, Holds, found, is_key, stage_of, stage_at, stages, removed}
+use Rattle.bit_slots.specs.Keys.{AreSameKeys, IsExchanged, IsExchangedWith, IsFilled, IsKeyInserted}
+use Rattle.bit_slots.specs.Keys.{IsRemoved, IsReplaced, IsUpdated, IsUpdatedIn}
 
 -- a slot that holds a value holds it in its generation
 pub live_holds : {V : Type 0} (generation : ℕ) (value : V) →

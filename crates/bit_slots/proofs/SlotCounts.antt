@@ -1,5 +1,6 @@
 -- How many slots of a row pass a test, and which numbers name them.
-use Rattle.std.proofs.Common.{◌≡◌, ℕ, zero, suc, ◌+◌, ◌<◌, ◌≤◌, Bool, true, false, cond, List, length, Option, Some, None, inl, inr, refl, sym, ap, ◌∙◌, arith}
+use Rattle.std.proofs.Common.{◌≡◌, ℕ, zero, suc, ◌+◌, ◌<◌, ◌≤◌, Bool, true, false, cond, List}
+use Rattle.std.proofs.Common.{length, Option, Some, None, inl, inr, refl, sym, ap, ◌∙◌, arith}
 use Rattle.std.specs.Prelude.{◌==◌, nat_lt, slice_get}
 use Rattle.std.specs.List.{All}
 use Rattle.std.proofs.lemmas.Bool.{cases_lt}
@@ -12,7 +13,8 @@ use Rattle.bittle.proofs.CallerSets.{size_at_most}
 use Rattle.bit_slots.specs.declared.slot.Slot.{Slot}
 use Rattle.bit_slots.specs.declared.slot.Slot.TheVariants.{Free, Live, Retired}
 use Rattle.bit_slots.specs.Keys.{Unused, Spent, found, stage_at, stages}
-use Rattle.bit_slots.specs.SlotSets.{is_free, is_live, is_slot, passes, slots_where, HasSlots, Joins, Leaves, Stays}
+use Rattle.bit_slots.specs.SlotSets.{is_free, is_live, is_slot, passes, slots_where, HasSlots}
+use Rattle.bit_slots.specs.SlotSets.{Joins, Leaves, Stays}
 use Rattle.bit_slots.proofs.RowEntries.{holds_is}
 use Rattle.bit_slots.proofs.SlotMarks.{slot_within}
 

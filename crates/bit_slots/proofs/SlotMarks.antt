@@ -1,5 +1,7 @@
 -- Which slots pass a test after a change of one slot, and the sets of these slots.
-use Rattle.std.proofs.Common.{◌≡◌, ◌≢◌, ◌+◌, nat_lt, ℕ, ◌<◌, ◌≤◌, Bool, true, false, not, cond, ◌&&◌, ◌||◌, ◌==◌, List, length, set, get_or, Some, inl, inr, refl, sym, ap, ◌∙◌, arith}
+use Rattle.std.proofs.Common.{◌≡◌, ◌≢◌, ◌+◌, nat_lt, ℕ, ◌<◌, ◌≤◌, Bool, true, false, not, cond}
+use Rattle.std.proofs.Common.{◌&&◌, ◌||◌, ◌==◌, List, length, set, get_or, Some, inl, inr, refl}
+use Rattle.std.proofs.Common.{sym, ap, ◌∙◌, arith}
 use Rattle.std.specs.Prelude.{slice_get, MatchBool, Result, Ok, Err}
 use Rattle.std.proofs.lemmas.Bool.{cases_eq, cases_lt, eq-eqb, ne_eqb, lt-ltb, le-ltb, and_right}
 use Rattle.std.proofs.lemmas.Option.{slice_get_past}
@@ -9,7 +11,8 @@ use Rattle.bittle.proofs.CallerSets.{with_index_within, without_index_within}
 use Rattle.bittle.proofs.CallerTables.{slice_get_set}
 use Rattle.bit_slots.specs.declared.slot.Slot.{Slot}
 use Rattle.bit_slots.specs.Keys.{IsExchanged, IsUpdatedIn}
-use Rattle.bit_slots.specs.SlotSets.{is_free, is_live, passes, is_slot, slots_where, HasSlots, MarksBelow, Joins, Leaves, Stays}
+use Rattle.bit_slots.specs.SlotSets.{is_free, is_live, passes, is_slot, slots_where, HasSlots}
+use Rattle.bit_slots.specs.SlotSets.{MarksBelow, Joins, Leaves, Stays}
 use Rattle.bit_slots.proofs.SlotChanges.{stood}
 
 module _ {V : Type 0} (test : Slot V → Bool) (row : List (Slot V)) where

@@ -1,7 +1,8 @@
 -- Laws of every history of calls.
 use Rattle.std.specs.Prelude.{◌≡◌, ◌⊎◌, ℕ, suc, ◌<◌, ◌≤◌, List, [], ◌∷◌, Some, None, slice_get}
 use Rattle.bit_slots.specs.declared.Key.{Key}
-use Rattle.bit_slots.specs.Keys.{Stage, Stages, Unused, Holds, Spent, found, AreSameKeys, IsKeyInserted, IsKeyReplaced, IsRemoved}
+use Rattle.bit_slots.specs.Keys.{Stage, Stages, Unused, Holds, Spent, found, AreSameKeys}
+use Rattle.bit_slots.specs.Keys.{IsKeyInserted, IsKeyReplaced, IsRemoved}
 
 -- a call: a value was put in and got the key, `remove` was called with the key, a new value
 -- replaced that of the key, or nothing changed

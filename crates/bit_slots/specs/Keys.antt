@@ -1,5 +1,6 @@
 -- What a key stands for, and how a call changes that.
-use Rattle.std.specs.Prelude.{◌≡◌, ℕ, Bool, ◌&&◌, ◌==◌, nat_lt, cond, true, false, is_some, List, slice_get, Option, Some, None, Result, Ok, Err}
+use Rattle.std.specs.Prelude.{◌≡◌, ℕ, Bool, ◌&&◌, ◌==◌, nat_lt, cond, true, false, is_some, List}
+use Rattle.std.specs.Prelude.{slice_get, Option, Some, None, Result, Ok, Err}
 use Rattle.bit_slots.specs.SlotSets.{is_free, is_live}
 use Rattle.bit_slots.specs.declared.Key.{Key}
 use Rattle.bit_slots.specs.declared.slot.Slot.{Slot}

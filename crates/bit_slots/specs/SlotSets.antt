@@ -1,5 +1,6 @@
 -- The sets of the slots that pass a test, such as being free.
-use Rattle.std.specs.Prelude.{◌≡◌, ◌==◌, ◌&&◌, ◌||◌, ℕ, Bool, true, false, not, nat_lt, List, slice_get, Option, Some, None}
+use Rattle.std.specs.Prelude.{◌≡◌, ◌==◌, ◌&&◌, ◌||◌, ℕ, Bool, true, false, not, nat_lt, List}
+use Rattle.std.specs.Prelude.{slice_get, Option, Some, None}
 use Rattle.bittle.specs.PlainSet.{PlainSet, size}
 use Rattle.bit_slots.specs.declared.slot.Slot.{Slot}
 use Rattle.bit_slots.specs.declared.slot.Slot.TheVariants.{Free, Live, Retired}
@@ -65,8 +66,8 @@ AreSameSlots before after = Stays is_free before after × Stays is_live before a
 abbrev pub IsTaken : {V : Type 0} → List (Slot V) → ℕ → List (Slot V) → Type 0
 IsTaken before slot after = Leaves is_free before slot after × Joins is_live before slot after
 
--- the value of the slot `slot` was taken out: the slot holds no value now, and is free if `again` is
--- true; each other slot is free, or holds a value, exactly as before
+-- the value of the slot `slot` was taken out: the slot holds no value now, and is free if `again`
+-- is true; each other slot is free, or holds a value, exactly as before
 abbrev pub IsEmptied : {V : Type 0} → List (Slot V) → ℕ → Bool → List (Slot V) → Type 0
 IsEmptied before slot again after =
     ((k : ℕ) → is_slot is_free after k ≡ (((k == slot) && again) || is_slot is_free before k))

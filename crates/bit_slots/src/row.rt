@@ -3,7 +3,8 @@
 ghost use Rattle.std.specs.Borrow.{MutBor};
 ghost use Rattle.std.specs.Fn.{FnOnceReturnsAtMut};
 ghost use Rattle.std.specs.Option.{is_some};
-ghost use Rattle.std.specs.Prelude.{◌≡◌, ◌<◌, ◌≤◌, ℕ, nat_lt, false, None, Some, true, cond, length};
+ghost use Rattle.std.specs.Prelude.{◌≡◌, ◌<◌, ◌≤◌, ℕ, nat_lt, false, None, Some, true, cond};
+ghost use Rattle.std.specs.Prelude.{length};
 ghost use Rattle.std.specs.Prelude.{option_copied, IfOk, IfSome, IsTrue, MatchBool, MatchOption};
 ghost use Rattle.bit_slots.specs.Keys.{stages, found, IsKeyInserted, IsRemoved, IsReplaced};
 ghost use Rattle.bit_slots.specs.Keys.{IsUpdated, HasKey, Spent, Unused};

@@ -5,7 +5,8 @@ ghost use Rattle.std.specs.Borrow.{MutBor};
 ghost use Rattle.std.specs.Fn.{FnOnceReturnsAtMut};
 ghost use Rattle.std.specs.Prelude.{◌≡◌, ℕ, cond, nat_lt, false, true, option_copied};
 ghost use Rattle.std.specs.Prelude.{IfSome, IsTrue, Some};
-ghost use Rattle.bit_slots.specs.Keys.{Spent, Unused, stage_of, found, removed, IsExchanged, IsFilled};
+ghost use Rattle.bit_slots.specs.Keys.{Spent, Unused, stage_of, found, removed, IsExchanged};
+ghost use Rattle.bit_slots.specs.Keys.{IsFilled};
 ghost use Rattle.bit_slots.specs.Keys.{IsUpdatedIn};
 ghost use Rattle.bit_slots.specs.SlotSets.{is_free, is_live};
 

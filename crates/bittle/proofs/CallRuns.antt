@@ -3,7 +3,8 @@ use Rattle.std.proofs.Common.{◌≡◌, List, refl, sym, ap, ◌∙◌}
 use Rattle.bittle_bits.specs.PlainSet.{PlainSet}
 use Rattle.bittle.specs.Machine.{set_after, final_set}
 use Rattle.bittle.specs.declared.replay.Call.{Call}
-use Rattle.bittle.specs.declared.replay.Call.TheVariants.{Test, Put, Clear, ClearAll, CountOnes, CountZeros, AllZeros, AllOnes, Capacity}
+use Rattle.bittle.specs.declared.replay.Call.TheVariants.{Test, Put, Clear, ClearAll, CountOnes}
+use Rattle.bittle.specs.declared.replay.Call.TheVariants.{CountZeros, AllZeros, AllOnes, Capacity}
 use Rattle.bittle.proofs.Replies.{run_keeps}
 
 -- a call keeps the capacity

@@ -1,10 +1,14 @@
 -- Facts on a set after a change that callers cite: tests of an index, and the size.
-use Rattle.std.proofs.Common.{◌≡◌, ◌≢◌, ℕ, zero, suc, ◌+◌, ◌-◌, ◌%◌, ◌<◌, ◌≤◌, ◌⊎◌, Bool, true, false, not, cond, ◌&&◌, ◌||◌, ◌==◌, nat_lt, inl, inr, refl, sym, ap, ◌∙◌, arith}
+use Rattle.std.proofs.Common.{◌≡◌, ◌≢◌, ℕ, zero, suc, ◌+◌, ◌-◌, ◌%◌, ◌<◌, ◌≤◌, ◌⊎◌, Bool, true}
+use Rattle.std.proofs.Common.{false, not, cond, ◌&&◌, ◌||◌, ◌==◌, nat_lt, inl, inr, refl, sym, ap}
+use Rattle.std.proofs.Common.{◌∙◌, arith}
 use Rattle.std.proofs.Common.{add-zero}
 use Rattle.std.proofs.Math.Nat.{add-mod_right}
 use Rattle.std.proofs.lemmas.Nat.{mod_below}
 use Rattle.std.proofs.lemmas.Bool.{and_parts, cases_eq, eq-eqb, ne_eqb, lt-ltb, true≢false}
-use Rattle.bittle_bits.specs.PlainSet.{PlainSet, contains, with_index, has_with, without_index, has_without, with_span_changed, has_changed, with_span, without_span, count_below, members_below, size}
+use Rattle.bittle_bits.specs.PlainSet.{PlainSet, contains, with_index, has_with, without_index}
+use Rattle.bittle_bits.specs.PlainSet.{has_without, with_span_changed, has_changed, with_span}
+use Rattle.bittle_bits.specs.PlainSet.{without_span, count_below, members_below, size}
 use Rattle.bittle_bits.proofs.Counts.{count-add, count-never, count-others, count-same}
 use Rattle.bittle_bits.proofs.MembersBelow.{below_between}
 use Rattle.bittle_bits.proofs.Spans.{inside_span, outside_span}

@@ -1,5 +1,7 @@
 -- Facts on the increasing list of a set's members that callers cite.
-use Rattle.std.proofs.Common.{◌≡◌, ℕ, zero, suc, ◌-◌, ◌<◌, ◌≤◌, ◌==◌, Bool, true, false, cond, List, [], ◌∷◌, length, get_or, Some, inl, inr, refl, sym, ap, ◌∙◌, subst, arith, IsTrue, ◌↔◌}
+use Rattle.std.proofs.Common.{◌≡◌, ℕ, zero, suc, ◌-◌, ◌<◌, ◌≤◌, ◌==◌, Bool, true, false, cond, List}
+use Rattle.std.proofs.Common.{[], ◌∷◌, length, get_or, Some, inl, inr, refl, sym, ap, ◌∙◌, subst}
+use Rattle.std.proofs.Common.{arith, IsTrue, ◌↔◌}
 use Rattle.std.specs.List.{Contains, list_any}
 use Rattle.std.specs.Ordering.{is_eq}
 use Rattle.std.proofs.lemmas.Bool.{cases_Bool, eqb-true}
@@ -8,7 +10,8 @@ use Rattle.std.proofs.lemmas.List.Elements.{Contains-append_left, Contains-push,
 use Rattle.std.proofs.lemmas.List.Folds.{Any-from_list_any, list_any_at}
 use Rattle.bittle_bits.specs.PlainSet.{PlainSet, ascending, ascending_from}
 use Rattle.bittle_bits.specs.Searches.{NoneIn, IsFirstIn}
-use Rattle.bittle_bits.proofs.AscendingLists.{ascending-below as below, ascending-at, ascending_from-none}
+use Rattle.bittle_bits.proofs.AscendingLists.{ascending-below as below, ascending-at}
+use Rattle.bittle_bits.proofs.AscendingLists.{ascending_from-none}
 use Rattle.bittle.specs.Comparison.{list_cmp, AreSame}
 use Rattle.bittle_bits.proofs.FirstItems.{ascending_from-least, least_or_none}
 use Rattle.bittle.proofs.ListComparison.{list_cmp-precedes, equal_iff_same}

@@ -1,9 +1,11 @@
 -- Facts on sets that callers cite: changes and tests of an index that does not wrap, sizes, and
 -- operations.
-use Rattle.std.proofs.Common.{◌≡◌, ℕ, ◌<◌, ◌≤◌, Bool, true, false, cond, not, nat_lt, ◌&&◌, ◌||◌, ◌==◌, inl, inr, sym, ap, ◌∙◌, refl, arith}
+use Rattle.std.proofs.Common.{◌≡◌, ℕ, ◌<◌, ◌≤◌, Bool, true, false, cond, not, nat_lt, ◌&&◌, ◌||◌}
+use Rattle.std.proofs.Common.{◌==◌, inl, inr, sym, ap, ◌∙◌, refl, arith}
 use Rattle.std.proofs.Math.Nat.{mod-eq_of_lt}
 use Rattle.std.proofs.lemmas.Bool.{cases_Bool, lt-ltb}
-use Rattle.bittle_bits.specs.PlainSet.{PlainSet, contains, with_index, has_with, without_index, has_without, complement, lacks, empty_set, full_set, size}
+use Rattle.bittle_bits.specs.PlainSet.{PlainSet, contains, with_index, has_with, without_index}
+use Rattle.bittle_bits.specs.PlainSet.{has_without, complement, lacks, empty_set, full_set, size}
 use Rattle.bittle_bits.specs.Searches.{NoneIn}
 use Rattle.bittle_bits.specs.SetOperations.{combination_of, combination_has, first_alone}
 pub use Rattle.bittle_bits.proofs.PlainSets.{members-past}

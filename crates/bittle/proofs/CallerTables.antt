@@ -1,5 +1,6 @@
 -- Facts that callers cite on a table after a write to one place.
-use Rattle.std.proofs.Common.{◌≡◌, ◌≢◌, ℕ, zero, suc, ◌<◌, cond, ◌==◌, Some, List, [], ◌∷◌, length, set, inl, inr, refl, ap, ◌∙◌, arith}
+use Rattle.std.proofs.Common.{◌≡◌, ◌≢◌, ℕ, zero, suc, ◌<◌, cond, ◌==◌, Some, List, [], ◌∷◌, length}
+use Rattle.std.proofs.Common.{set, inl, inr, refl, ap, ◌∙◌, arith}
 use Rattle.std.specs.Prelude.{slice_get}
 use Rattle.std.proofs.lemmas.Bool.{cases_eq, eq-eqb, ne_eqb}
 

@@ -1,7 +1,9 @@
 -- The first difference of two sets whose words have the same width and are read in the same order,
 -- and what it decides.
 use mathlib.Core.Bool.{beq}
-use Rattle.std.proofs.Common.{◌≡◌, ℕ, ◌<◌, ◌≤◌, ◌⊎◌, ◌↔◌, Bool, true, false, not, IsTrue, inl, inr, Option, Some, None, is_none, is_some, MatchOption, MatchBool, min, refl, sym, ap, ◌∙◌, arith}
+use Rattle.std.proofs.Common.{◌≡◌, ℕ, ◌<◌, ◌≤◌, ◌⊎◌, ◌↔◌, Bool, true, false, not, IsTrue, inl, inr}
+use Rattle.std.proofs.Common.{Option, Some, None, is_none, is_some, MatchOption, MatchBool, min}
+use Rattle.std.proofs.Common.{refl, sym, ap, ◌∙◌, arith}
 use Rattle.std.proofs.lemmas.Bool.{cases_eq, cases_lt, not-true, false_from_ne_true, true≢false}
 use Rattle.std.specs.declared.cmp.Ordering.{Ordering}
 use Rattle.std.specs.declared.cmp.Ordering.TheVariants.{Less, Equal, Greater}
@@ -10,8 +12,10 @@ use Rattle.bittle_bits.specs.Decided.{NoneDecidedBelow, IsFirstDecided}
 use Rattle.bittle_bits.specs.PlainSet.{PlainSet, ascending}
 use Rattle.bittle_bits.specs.Searches.{IsFirstIn}
 use Rattle.bittle_bits.specs.SetOperations.{just_one}
-use Rattle.bittle.specs.Comparison.{list_cmp, AreSame, AreSameBelow, GoesOn, HasPast, HasNonePast, Precedes, IsFirstDifference, TellsFirstDifference}
-use Rattle.bittle.proofs.ListComparison.{EndsAtCapacity, list_cmp-precedes, equal_iff_same, not_both}
+use Rattle.bittle.specs.Comparison.{list_cmp, AreSame, AreSameBelow, GoesOn, HasPast, HasNonePast}
+use Rattle.bittle.specs.Comparison.{Precedes, IsFirstDifference, TellsFirstDifference}
+use Rattle.bittle.proofs.ListComparison.{EndsAtCapacity, list_cmp-precedes, equal_iff_same}
+use Rattle.bittle.proofs.ListComparison.{not_both}
 
 alike : (a b : Bool) → just_one a b ≡ false → a ≡ b
 alike a b h = grind arith

@@ -1,12 +1,15 @@
 -- The least number that is in just one of two increasing lists decides their order.
-use Rattle.std.proofs.Common.{◌≡◌, ℕ, zero, suc, ◌+◌, ◌-◌, ◌<◌, ◌≤◌, ◌⊎◌, Bool, true, false, List, ◌∷◌, refl, sym, ◌∙◌, ap, subst, inl, inr, arith, IsTrue, ◌↔◌}
-use Rattle.std.proofs.lemmas.Bool.{cases_eq, cases_Bool, cases_lt, lt-ltb, le-ltb, eq-eqb, ne_eqb, true≢false}
+use Rattle.std.proofs.Common.{◌≡◌, ℕ, zero, suc, ◌+◌, ◌-◌, ◌<◌, ◌≤◌, ◌⊎◌, Bool, true, false, List}
+use Rattle.std.proofs.Common.{◌∷◌, refl, sym, ◌∙◌, ap, subst, inl, inr, arith, IsTrue, ◌↔◌}
+use Rattle.std.proofs.lemmas.Bool.{cases_eq, cases_Bool, cases_lt, lt-ltb, le-ltb, eq-eqb, ne_eqb}
+use Rattle.std.proofs.lemmas.Bool.{true≢false}
 use Rattle.std.specs.declared.cmp.Ordering.{Ordering}
 use Rattle.std.specs.declared.cmp.Ordering.TheVariants.{Less, Equal, Greater}
 use Rattle.std.specs.Ordering.{MatchOrdering, is_eq}
 use Rattle.bittle_bits.specs.PlainSet.{PlainSet, ascending, ascending_from}
 use Rattle.bittle_bits.proofs.AscendingLists.{ascending-yes, ascending-no, ascending_from-none}
-use Rattle.bittle_bits.proofs.FirstItems.{NonePasses, IsLeastPassing, ascending_from-least, least_or_none, ascending_from-past}
+use Rattle.bittle_bits.proofs.FirstItems.{NonePasses, IsLeastPassing, ascending_from-least}
+use Rattle.bittle_bits.proofs.FirstItems.{least_or_none, ascending_from-past}
 use Rattle.bittle.specs.Comparison.{list_cmp, AreSame, Precedes}
 
 abbrev SameIn : (ℕ → Bool) → (ℕ → Bool) → ℕ → ℕ → Type 0

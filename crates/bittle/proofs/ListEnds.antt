@@ -1,9 +1,11 @@
 -- One step from either end of a list, and what many steps keep.
-use Rattle.std.proofs.Common.{◌≡◌, ℕ, Option, Some, None, List, [], ◌∷◌, ◌++◌, reverse, refl, sym, ap, ◌∙◌, append_assoc, append-nil}
+use Rattle.std.proofs.Common.{◌≡◌, ℕ, Option, Some, None, List, [], ◌∷◌, ◌++◌, reverse, refl, sym}
+use Rattle.std.proofs.Common.{ap, ◌∙◌, append_assoc, append-nil}
 use Rattle.std.proofs.lemmas.List.{reverse-append, reverse-reverse}
 use Rattle.bittle.specs.declared.replay.steps.Step.{Step}
 use Rattle.bittle.specs.declared.replay.steps.Step.TheVariants.{Front, Back}
-use Rattle.bittle.specs.ListEnds.{first_of, rest_of, items_left_by, remains_of, item_in, items_from_front, items_from_back, KeepsAll}
+use Rattle.bittle.specs.ListEnds.{first_of, rest_of, items_left_by, remains_of, item_in}
+use Rattle.bittle.specs.ListEnds.{items_from_front, items_from_back, KeepsAll}
 
 -- a list is its first item, then the rest
 first_and_rest : (xs : List ℕ) → item_in (first_of xs) ++ rest_of xs ≡ xs

@@ -1,5 +1,8 @@
 -- An iterator stepped through the first steps of a list.
-use Rattle.std.proofs.Common.{◌≡◌, ℕ, ◌+◌, ◌<◌, ◌≤◌, Option, Some, None, List, [], ◌∷◌, ◌++◌, length, take, drop, refl, sym, ◌∙◌, ap, arith, set, get_or, length-append, append_assoc, add-one, drop-cons, ⊎_elim, take_all, le_trans}
+use Rattle.std.proofs.Common.{◌≡◌, ℕ, ◌+◌, ◌<◌, ◌≤◌, Option, Some, None, List, [], ◌∷◌, ◌++◌}
+use Rattle.std.proofs.Common.{length, take, drop, refl, sym, ◌∙◌, ap, arith, set, get_or}
+use Rattle.std.proofs.Common.{length-append, append_assoc, add-one, drop-cons, ⊎_elim, take_all}
+use Rattle.std.proofs.Common.{le_trans}
 use Rattle.std.specs.Prelude.{slice_index}
 use Rattle.std.proofs.lemmas.List.Sums.{sum_by-append}
 use Rattle.std.proofs.Math.Seq.{take-suc-set, get_or-append_seam}

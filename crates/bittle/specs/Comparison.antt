@@ -1,6 +1,7 @@
 -- How two sets are compared, and what a set feeds to a hasher. Both use the increasing list of the
 -- members.
-use Rattle.std.specs.Prelude.{◌≡◌, ℕ, ◌<◌, ◌⊎◌, Bool, true, false, cond, MatchBool, MatchOption, nat_eq, Option, List, ◌++◌, length}
+use Rattle.std.specs.Prelude.{◌≡◌, ℕ, ◌<◌, ◌⊎◌, Bool, true, false, cond, MatchBool, MatchOption}
+use Rattle.std.specs.Prelude.{nat_eq, Option, List, ◌++◌, length}
 use Rattle.std.specs.Cmp.Lexicographic.{slice_cmp, pointwise}
 use Rattle.std.specs.Hash as fed
 use Rattle.std.specs.List.{flat_map}

@@ -1,5 +1,6 @@
 -- Steps that take the items of a list from its two ends, and the scans that they may cost.
-use Rattle.std.specs.Prelude.{◌≡◌, ℕ, ◌+◌, ◌<◌, ◌≤◌, Option, Some, None, List, [], ◌∷◌, ◌++◌, length, take, slice_index, is_some, count_by, reverse}
+use Rattle.std.specs.Prelude.{◌≡◌, ℕ, ◌+◌, ◌<◌, ◌≤◌, Option, Some, None, List, [], ◌∷◌, ◌++◌}
+use Rattle.std.specs.Prelude.{length, take, slice_index, is_some, count_by, reverse}
 use Rattle.bittle.specs.declared.replay.steps.Step.{Step}
 use Rattle.bittle.specs.declared.replay.steps.Step.TheVariants.{Front, Back}
 

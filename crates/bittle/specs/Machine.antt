@@ -2,9 +2,11 @@
 -- mentions no word, no bit order and no array element.
 use Rattle.std.specs.Prelude.{◌-◌, ◌==◌, List}
 use Rattle.std.specs.List.{fold, scan}
-use Rattle.bittle_bits.specs.PlainSet.{PlainSet, contains, with_index, without_index, without_members, size}
+use Rattle.bittle_bits.specs.PlainSet.{PlainSet, contains, with_index, without_index}
+use Rattle.bittle_bits.specs.PlainSet.{without_members, size}
 use Rattle.bittle.specs.declared.replay.Call.{Call}
-use Rattle.bittle.specs.declared.replay.Call.TheVariants.{Test, Put, Clear, ClearAll, CountOnes, CountZeros, AllZeros, AllOnes, Capacity}
+use Rattle.bittle.specs.declared.replay.Call.TheVariants.{Test, Put, Clear, ClearAll, CountOnes}
+use Rattle.bittle.specs.declared.replay.Call.TheVariants.{CountZeros, AllZeros, AllOnes, Capacity}
 use Rattle.bittle.specs.declared.replay.Reply.{Reply}
 use Rattle.bittle.specs.declared.replay.Reply.TheVariants.{Done, Bit, Number}
 

@@ -90,12 +90,14 @@ macro_rules! set_of_listed {
 macro_rules! put_listed {
     ($set:ident $index:tt $until:tt $through:tt) => {};
 
-    ($set:ident $index:tt $until:tt [$($through:tt)*] $from:literal ..= $to:literal $(, $($rest:tt)*)?) => {
+    ($set:ident $index:tt $until:tt [$($through:tt)*] $from:literal ..= $to:literal
+        $(, $($rest:tt)*)?) => {
         $($through)*(&mut $set, $from, $to);
         $crate::put_listed!($set $index $until [$($through)*] $($($rest)*)?);
     };
 
-    ($set:ident $index:tt [$($until:tt)*] $through:tt $from:literal .. $to:literal $(, $($rest:tt)*)?) => {
+    ($set:ident $index:tt [$($until:tt)*] $through:tt $from:literal .. $to:literal
+        $(, $($rest:tt)*)?) => {
         $($until)*(&mut $set, $from, $to);
         $crate::put_listed!($set $index [$($until)*] $through $($($rest)*)?);
     };

@@ -1,10 +1,13 @@
 -- The increasing list of the members: its ends, the list without one member, and its length.
-use Rattle.std.proofs.Common.{◌≡◌, ◌≢◌, ℕ, zero, suc, ◌+◌, ◌-◌, ◌<◌, ◌≤◌, Bool, true, false, not, ◌&&◌, ◌==◌, cond, List, [], ◌∷◌, ◌++◌, length, map, get_or, length-append, ◌⊎◌, inl, inr, refl, sym, ap, ◌∙◌, arith}
+use Rattle.std.proofs.Common.{◌≡◌, ◌≢◌, ℕ, zero, suc, ◌+◌, ◌-◌, ◌<◌, ◌≤◌, Bool, true, false, not}
+use Rattle.std.proofs.Common.{◌&&◌, ◌==◌, cond, List, [], ◌∷◌, ◌++◌, length, map, get_or}
+use Rattle.std.proofs.Common.{length-append, ◌⊎◌, inl, inr, refl, sym, ap, ◌∙◌, arith}
 use Rattle.std.proofs.Math.Nat.{mod-eq_of_lt}
 use Rattle.std.proofs.lemmas.Bool.{eq-eqb, eqb-true, ne_eqb, true≢false, cases_Bool, cases_eq}
 use Rattle.std.proofs.lemmas.List.{append-nil, nil_from_length}
 use Rattle.bittle_bits.specs.Ends.{with_end, IsEndMember}
-use Rattle.bittle_bits.specs.PlainSet.{PlainSet, without_index, has_without, count_below, size, ascending_from, ascending}
+use Rattle.bittle_bits.specs.PlainSet.{PlainSet, without_index, has_without, count_below, size}
+use Rattle.bittle_bits.specs.PlainSet.{ascending_from, ascending}
 use Rattle.bittle_bits.specs.Walk.{AreBelow}
 use Rattle.bittle_bits.proofs.PlainSets.{has_without-in}
 use Rattle.bittle_bits.proofs.Sizes.{size-le}

@@ -1,9 +1,11 @@
 -- Buffered words: words without an item, and what a scan takes.
-use Rattle.std.proofs.Common.{◌≡◌, ◌≢◌, inl, inr, ℕ, ◌+◌, ◌-◌, Bool, true, false, cond, List, [], ◌∷◌, length, length-append, map, Some, None, refl, ap, arith}
+use Rattle.std.proofs.Common.{◌≡◌, ◌≢◌, inl, inr, ℕ, ◌+◌, ◌-◌, Bool, true, false, cond, List, []}
+use Rattle.std.proofs.Common.{◌∷◌, length, length-append, map, Some, None, refl, ap, arith}
 use Rattle.std.proofs.lemmas.Bool.{cases_Bool}
 use Rattle.std.proofs.lemmas.List.{map-append}
 use Rattle.bittle_bits.specs.BitPatterns.{bit_set}
-use Rattle.bittle_bits.specs.Buffers.{edge_from_first, buffered_items, buffer_count, items_in, IsSound}
+use Rattle.bittle_bits.specs.Buffers.{edge_from_first, buffered_items, buffer_count, items_in}
+use Rattle.bittle_bits.specs.Buffers.{IsSound}
 use Rattle.bittle_bits.specs.Ends.{with_end}
 use Rattle.bittle_bits.specs.Orders.{read_in}
 use Rattle.bittle_bits.specs.PlainSet.{ascending}

@@ -1,5 +1,6 @@
 -- The result of an operation on two sets, word by word.
-use Rattle.std.proofs.Common.{◌≡◌, ℕ, ◌+◌, ◌*◌, ◌/◌, ◌<◌, ◌≤◌, Bool, ◌&&◌, inl, inr, Option, Some, None, MatchOption, refl, sym, ap, ◌∙◌, arith}
+use Rattle.std.proofs.Common.{◌≡◌, ℕ, ◌+◌, ◌*◌, ◌/◌, ◌<◌, ◌≤◌, Bool, ◌&&◌, inl, inr, Option, Some}
+use Rattle.std.proofs.Common.{None, MatchOption, refl, sym, ap, ◌∙◌, arith}
 use Rattle.std.proofs.Math.Path.{fun_ext}
 use Rattle.std.proofs.Math.Nat.{mul-div_left}
 use Rattle.std.proofs.lemmas.Bool.{cases_lt, lt-ltb, le-ltb}
@@ -36,7 +37,8 @@ module _ (f : Bool → Bool → Bool) (m : Bool) (w n : ℕ) (s t : PlainSet) (w
       ≡ f ((read_in m w s).has i) ((read_in m w t).has i)
   unfolding has_decided
   decided_at i h =
-      let low : place m w i < whole.0 * w = place_below m w whole.0 i word (omega (arith, h, whole.1))
+      let low : place m w i < whole.0 * w =
+      place_below m w whole.0 i word (omega (arith, h, whole.1))
       in
       ap (λ b. b && f (s.has (place m w i)) (t.has (place m w i)))
       (lt-ltb (place m w i) n (omega (arith, low, whole.1)))

@@ -1,5 +1,6 @@
 -- The word whose members are the indexes from a given one on.
-use Rattle.std.proofs.Common.{◌≡◌, ℕ, ◌-◌, ◌*◌, ◌^◌, ◌<◌, ◌≤◌, ◌⊎◌, true, false, not, ◌&&◌, ◌||◌, nat_lt, ◌==◌, inl, inr, refl, sym, ap, ◌∙◌, arith, bit_or}
+use Rattle.std.proofs.Common.{◌≡◌, ℕ, ◌-◌, ◌*◌, ◌^◌, ◌<◌, ◌≤◌, ◌⊎◌, true, false, not, ◌&&◌, ◌||◌}
+use Rattle.std.proofs.Common.{nat_lt, ◌==◌, inl, inr, refl, sym, ap, ◌∙◌, arith, bit_or}
 use Rattle.std.proofs.Math.Bool.{and-false, or-true}
 use Rattle.std.proofs.Math.Path.{fun_ext}
 use Rattle.std.specs.Int.{bit_at}

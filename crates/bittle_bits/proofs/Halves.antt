@@ -1,6 +1,7 @@
 -- A word as two halves: its bits, its items in each order, what is left after an item is taken out
 -- of a half, and an operation on each half.
-use Rattle.std.proofs.Common.{◌≡◌, ℕ, ◌+◌, ◌-◌, ◌*◌, ◌^◌, ◌<◌, Bool, true, false, ◌==◌, cond, List, [], ◌∷◌, ◌++◌, map, inl, inr, refl, sym, ap, ◌∙◌, arith}
+use Rattle.std.proofs.Common.{◌≡◌, ℕ, ◌+◌, ◌-◌, ◌*◌, ◌^◌, ◌<◌, Bool, true, false, ◌==◌, cond, List}
+use Rattle.std.proofs.Common.{[], ◌∷◌, ◌++◌, map, inl, inr, refl, sym, ap, ◌∙◌, arith}
 use mathlib.Core.Bool.{beq}
 use Rattle.std.specs.Int.{bit_at}
 use Rattle.std.proofs.lemmas.Nat.Bits.{bit_at_cat_low, bit_at_cat_high}
@@ -11,7 +12,8 @@ use Rattle.bittle_bits.specs.Ends.{with_end}
 use Rattle.bittle_bits.specs.Orders.{mirror, place, read_in}
 use Rattle.bittle_bits.specs.PlainSet.{ascending_from, ascending}
 use Rattle.bittle_bits.specs.SetOperations.{combination_of}
-use Rattle.bittle_bits.proofs.AscendingLists.{ascending_from-add, ascending_from-same, ascending_from-moved}
+use Rattle.bittle_bits.proofs.AscendingLists.{ascending_from-add, ascending_from-same}
+use Rattle.bittle_bits.proofs.AscendingLists.{ascending_from-moved}
 use Rattle.bittle_bits.proofs.BitSets.{bit_has-at}
 use Rattle.bittle_bits.proofs.PlaceLemmas.{mirror_in_word}
 use Rattle.bittle_bits.proofs.SetOperations.{combination-below}

@@ -1,12 +1,14 @@
 -- The members of a set in a range, and the items of a buffered word, as lists.
-use Rattle.std.proofs.Common.{◌≡◌, ℕ, ◌+◌, ◌-◌, ◌*◌, ◌<◌, ◌≤◌, Bool, [], ◌++◌, append-nil, refl, sym, ap, ◌∙◌, arith}
+use Rattle.std.proofs.Common.{◌≡◌, ℕ, ◌+◌, ◌-◌, ◌*◌, ◌<◌, ◌≤◌, Bool, [], ◌++◌, append-nil, refl}
+use Rattle.std.proofs.Common.{sym, ap, ◌∙◌, arith}
 use Rattle.bittle_bits.specs.Buffers.{members_between, items_of}
 use Rattle.bittle_bits.specs.BitPatterns.{bit_set}
 use Rattle.bittle_bits.specs.Orders.{read_in}
 use Rattle.bittle_bits.specs.PlainSet.{PlainSet, ascending}
 use Rattle.bittle_bits.specs.Searches.{NoneIn}
 use Rattle.bittle_bits.specs.Words.{word_of}
-use Rattle.bittle_bits.proofs.AscendingLists.{ascending_from-add, ascending_from-none, ascending_from-moved}
+use Rattle.bittle_bits.proofs.AscendingLists.{ascending_from-add, ascending_from-none}
+use Rattle.bittle_bits.proofs.AscendingLists.{ascending_from-moved}
 use Rattle.bittle_bits.proofs.Words.{digit_at}
 
 -- the members in a range are those in its first part, then those in the rest
@@ -37,7 +39,8 @@ members_between-all s a c none is = let e : c - a ≡ s.capacity = omega arith i
 pub members_between-inner : (s : PlainSet) (a b c : ℕ) → a ≤ b → b ≤ c → c ≡ s.capacity →
     NoneIn s 0 a → NoneIn s b c → members_between s a b ≡ ascending s
 members_between-inner s a b c lo hi is before after =
-    sym (append-nil _) ∙ ap (λ xs. members_between s a b ++ xs) (sym (members_between-none s b c after))
+    sym (append-nil _) ∙ ap (λ xs. members_between s a b ++ xs)
+    (sym (members_between-none s b c after))
     ∙ sym (members_between-split s a b c lo hi)
     ∙ ap (λ xs. xs ++ members_between s a c) (sym (members_between-none s 0 a before))
     ∙ sym (members_between-split s 0 a c (omega arith) (omega arith))

@@ -3,7 +3,8 @@ use Rattle.std.proofs.Common.{◌≡◌, ℕ, ◌+◌, ◌≤◌, List, ap, leng
 use Rattle.std.specs.Iterator.{YieldsFirst, YieldsLast}
 use Rattle.std.specs.Iterator.Runs.{YieldsInOrder, YieldsInReverse}
 use Rattle.std.proofs.iter.runs.Sources.{from_front, from_back, as_is, as_is_back}
-use Rattle.bittle_bits.specs.Walk.{Walk, StepsFront, StepsBack, IsFresh, ResumesAs, ListsInOrder, ListsInReverse}
+use Rattle.bittle_bits.specs.Walk.{Walk, StepsFront, StepsBack, IsFresh, ResumesAs, ListsInOrder}
+use Rattle.bittle_bits.specs.Walk.{ListsInReverse}
 
 in_order : YieldsInOrder StepsFront (λ w. w.remaining)
 in_order p seen = as_is p p.from.remaining (from_front StepsFront (λ x. x) (λ w. w.remaining)
@@ -29,7 +30,8 @@ is_fresh words w l i f n u = record {
 
 -- a clone resumes as its source if it has the same items and words left, and has counted only the
 -- words that the source had fetched or passed over
-pub resumes_as : (source clone : Walk) → clone.remaining ≡ source.remaining → clone.unread ≡ source.unread →
+pub resumes_as : (source clone : Walk) → clone.remaining ≡ source.remaining → clone.unread
+    ≡ source.unread →
     clone.words ≡ source.words → clone.scans ≡ 0 → clone.items ≡ 0 → clone.fetches ≡ 0 →
     clone.passed ≡ source.passed + source.fetches →
     source.fetches + source.unread + source.passed ≡ source.words → ResumesAs source clone

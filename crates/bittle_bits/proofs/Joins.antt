@@ -1,5 +1,7 @@
 -- What any number of calls of a join return.
-use Rattle.std.proofs.Common.{◌≡◌, ℕ, suc, zero, ◌+◌, ◌-◌, ◌<◌, ◌≤◌, Bool, true, false, cond, List, [], ◌∷◌, ◌++◌, Some, None, length, drop, slice_index, sym, ap, ◌∙◌, subst, arith, zero-add, length-append, add-one}
+use Rattle.std.proofs.Common.{◌≡◌, ℕ, suc, zero, ◌+◌, ◌-◌, ◌<◌, ◌≤◌, Bool, true, false, cond, List}
+use Rattle.std.proofs.Common.{[], ◌∷◌, ◌++◌, Some, None, length, drop, slice_index, sym, ap, ◌∙◌}
+use Rattle.std.proofs.Common.{subst, arith, zero-add, length-append, add-one}
 use Rattle.std.specs.Prelude.{Option, slice_get}
 use Rattle.std.specs.Iterator.{Yields, YieldsThen}
 use Rattle.std.proofs.iter.runs.Lists.{Yields-both}
@@ -108,7 +110,8 @@ module _ {I A : Type 0} (steps : I → Option A → I → Type 0) where
       (subst (λ n. IsAscendingFrom n ms) (sym step.1) ahead.1)
 
   -- what a join returns before its end are the iterator's items at the mask's members
-  pub join_answers : (s : Join I) (ys : List A) (t : Join I) → IsAscendingFrom s.taken s.mask.remaining →
+  pub join_answers : (s : Join I) (ys : List A) (t : Join I) →
+      IsAscendingFrom s.taken s.mask.remaining →
       s.ended ≡ false → Yields (join_steps steps) s ys t → JoinsTo s s.mask.remaining ys t
   join_answers s [] t ahead goes h = (
     [],
@@ -141,7 +144,8 @@ module _ {I A : Type 0} (steps : I → Option A → I → Type 0) where
   )
 
   -- a join ends after the last member, or at a member that the iterator does not reach
-  pub join_end : (s : Join I) (ys : List A) (t : Join I) → IsAscendingFrom s.taken s.mask.remaining →
+  pub join_end : (s : Join I) (ys : List A) (t : Join I) →
+      IsAscendingFrom s.taken s.mask.remaining →
       s.ended ≡ false → YieldsThen (join_steps steps) s ys None t
       → (taken : List A) × IsJoin s.taken s.mask.remaining taken ys
       × EndsAt steps s taken (drop (length ys) s.mask.remaining) t

@@ -1,11 +1,13 @@
 -- How many members of a set lie below a number.
-use Rattle.std.proofs.Common.{◌≡◌, ℕ, ◌+◌, ◌-◌, ◌*◌, ◌<◌, ◌≤◌, Bool, false, ◌&&◌, refl, sym, ap, ◌∙◌, arith, inl, inr, bit_and}
+use Rattle.std.proofs.Common.{◌≡◌, ℕ, ◌+◌, ◌-◌, ◌*◌, ◌<◌, ◌≤◌, Bool, false, ◌&&◌, refl, sym, ap}
+use Rattle.std.proofs.Common.{◌∙◌, arith, inl, inr, bit_and}
 use Rattle.std.proofs.Math.Bool.{and-true}
 use Rattle.std.proofs.lemmas.Bool.{and_right}
 use Rattle.bittle_bits.specs.BitPatterns.{bit_has, bit_set}
 use Rattle.bittle_bits.specs.LawProofs.{one_word}
 use Rattle.bittle_bits.specs.Orders.{place, read_in}
-use Rattle.bittle_bits.specs.PlainSet.{PlainSet, count_below, members_below, is_in_span, span_set, size}
+use Rattle.bittle_bits.specs.PlainSet.{PlainSet, count_below, members_below, is_in_span, span_set}
+use Rattle.bittle_bits.specs.PlainSet.{size}
 use Rattle.bittle_bits.specs.Words.{word_of}
 use Rattle.bittle_bits.proofs.BitSets.{bit_has-and}
 use Rattle.bittle_bits.proofs.Counts.{count-same, count-le, count-add, count-never}

@@ -1,9 +1,11 @@
 -- Plain sets, and the members in an order.
-use Rattle.std.proofs.Common.{◌≡◌, ℕ, ◌*◌, ◌%◌, ◌<◌, ◌≤◌, Bool, false, not, ◌&&◌, ◌||◌, ◌==◌, nat_lt, refl, sym, ap, ◌∙◌, arith}
+use Rattle.std.proofs.Common.{◌≡◌, ℕ, ◌*◌, ◌%◌, ◌<◌, ◌≤◌, Bool, false, not, ◌&&◌, ◌||◌, ◌==◌}
+use Rattle.std.proofs.Common.{nat_lt, refl, sym, ap, ◌∙◌, arith}
 use Rattle.std.proofs.Math.Path.{fun_ext}
 use Rattle.std.proofs.lemmas.Bool.{lt-ltb}
 use Rattle.bittle_bits.specs.Orders.{place, read_in}
-use Rattle.bittle_bits.specs.PlainSet.{PlainSet, contains, has_with, with_index, has_without, without_index, full_set, lacks, complement}
+use Rattle.bittle_bits.specs.PlainSet.{PlainSet, contains, has_with, with_index, has_without}
+use Rattle.bittle_bits.specs.PlainSet.{without_index, full_set, lacks, complement}
 use Rattle.bittle_bits.proofs.PlaceLemmas.{place_past, place_inside}
 
 -- the set of a capacity with this test

@@ -1,15 +1,19 @@
 -- A call on one index of a row, by the call on the element that the index goes to.
-use Rattle.std.proofs.Common.{◌≡◌, ℕ, ◌+◌, ◌*◌, ◌/◌, ◌%◌, ◌^◌, ◌<◌, ◌≤◌, Bool, true, false, not, ◌&&◌, ◌||◌, ◌==◌, inl, inr, refl, sym, ap, ◌∙◌, arith, mul-pos, List, length, get_or, set}
+use Rattle.std.proofs.Common.{◌≡◌, ℕ, ◌+◌, ◌*◌, ◌/◌, ◌%◌, ◌^◌, ◌<◌, ◌≤◌, Bool, true, false, not}
+use Rattle.std.proofs.Common.{◌&&◌, ◌||◌, ◌==◌, inl, inr, refl, sym, ap, ◌∙◌, arith, mul-pos, List}
+use Rattle.std.proofs.Common.{length, get_or, set}
 use Rattle.std.proofs.Math.Path.{fun_ext}
 use Rattle.std.proofs.Math.Nat.{div-add-mod', mod-eq_of_lt}
-use Rattle.std.proofs.lemmas.Nat.{div_below, mod-mul-add, mod_below, pow-add, mul-add-lt, same_from_place}
+use Rattle.std.proofs.lemmas.Nat.{div_below, mod-mul-add, mod_below, pow-add, mul-add-lt}
+use Rattle.std.proofs.lemmas.Nat.{same_from_place}
 use Rattle.std.proofs.lemmas.Bool.{eq-eqb, ne_eqb, cases_eq, cases_lt}
 use Rattle.bittle_bits.specs.RowLawProofs.{row_has-past}
 use Rattle.bittle_bits.specs.Orders.{place, read_in}
 use Rattle.bittle_bits.specs.PlainSet.{PlainSet, contains}
 use Rattle.bittle_bits.specs.Rows.{row_has, row_set, with_bit, GoesTo}
 use Rattle.bittle_bits.proofs.PlainSets.{plain_set, contains_in, with_in, without_in}
-use Rattle.bittle_bits.proofs.RowSets.{at_element-read, at_element-set_same, at_element-set_other, elements_has_at, by_place, elements_placed}
+use Rattle.bittle_bits.proofs.RowSets.{at_element-read, at_element-set_same, at_element-set_other}
+use Rattle.bittle_bits.proofs.RowSets.{elements_has_at, by_place, elements_placed}
 
 -- an index that wraps at the capacity of the row is index i % c of element i / c % n
 pub wraps_at : (n c i : ℕ) → 0 < n → 0 < c → i % (n * c) ≡ i / c % n * c + i % c

@@ -1,5 +1,6 @@
 -- The operations on two rows of elements.
-use Rattle.std.proofs.Common.{◌≡◌, ℕ, zero, suc, ◌+◌, ◌*◌, ◌<◌, ◌≤◌, Bool, inl, inr, refl, sym, ap, ◌∙◌, arith, List, [], ◌∷◌, length, get_or, set}
+use Rattle.std.proofs.Common.{◌≡◌, ℕ, zero, suc, ◌+◌, ◌*◌, ◌<◌, ◌≤◌, Bool, inl, inr, refl, sym, ap}
+use Rattle.std.proofs.Common.{◌∙◌, arith, List, [], ◌∷◌, length, get_or, set}
 use Rattle.std.proofs.Math.Path.{fun_ext}
 use Rattle.std.proofs.Math.Nat.{mul-le-mul_right}
 use Rattle.std.proofs.lemmas.List.{get_or-set_same, get_or-set_other, get_or_default, length-set}
@@ -11,7 +12,8 @@ use Rattle.bittle_bits.specs.Rows.{at_element, row_has, row_set, IsCombinedBelow
 use Rattle.bittle_bits.specs.SetOperations.{combination_has, combination_of}
 use Rattle.bittle_bits.proofs.PlainSets.{plain_set}
 use Rattle.bittle_bits.proofs.RowSets.{elements_has_at, by_place}
-use Rattle.bittle_bits.proofs.SetOperations.{combination-below, combination-past, combination-outside}
+use Rattle.bittle_bits.proofs.SetOperations.{combination-below, combination-past}
+use Rattle.bittle_bits.proofs.SetOperations.{combination-outside}
 
 -- an element of a row that is not empty
 some_of : {X : Type 0} (xs : List X) (n : ℕ) → n < length xs → X

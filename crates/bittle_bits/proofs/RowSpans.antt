@@ -1,5 +1,6 @@
 -- Rows of elements after a change of each index of a span.
-use Rattle.std.proofs.Common.{◌≡◌, ℕ, ◌+◌, ◌*◌, ◌<◌, ◌≤◌, ◌≢◌, ◌⊎◌, Bool, inl, inr, sym, ap, ◌∙◌, arith, List, length, get_or, set}
+use Rattle.std.proofs.Common.{◌≡◌, ℕ, ◌+◌, ◌*◌, ◌<◌, ◌≤◌, ◌≢◌, ◌⊎◌, Bool, inl, inr, sym, ap, ◌∙◌}
+use Rattle.std.proofs.Common.{arith, List, length, get_or, set}
 use Rattle.std.proofs.Math.Path.{fun_ext}
 use Rattle.std.proofs.Math.Nat.{mul-le-mul_right}
 use Rattle.std.proofs.lemmas.Nat.{mul-add-lt}
@@ -9,11 +10,13 @@ use Rattle.bittle_bits.specs.Orders.{place, read_in}
 use Rattle.bittle_bits.specs.PlainSet.{PlainSet, with_span_changed}
 use Rattle.bittle_bits.specs.Rows.{row_has, row_set}
 use Rattle.bittle_bits.proofs.PlainSets.{plain_set}
-use Rattle.bittle_bits.proofs.RowSets.{at_element-read, at_element-set_same, at_element-set_other, elements_has_at, elements_placed, by_place}
+use Rattle.bittle_bits.proofs.RowSets.{at_element-read, at_element-set_same, at_element-set_other}
+use Rattle.bittle_bits.proofs.RowSets.{elements_has_at, elements_placed, by_place}
 use Rattle.bittle_bits.proofs.Spans.{outside_span, inside_span}
 
 -- a row after a change of a span within one element
-module _ {X : Type 0} (change : Bool → Bool) (m : Bool) (w c n q : ℕ) (big : X → PlainSet) (xs : List X) (x y : X)
+module _ {X : Type 0} (change : Bool → Bool) (m : Bool) (w c n q : ℕ) (big : X → PlainSet)
+    (xs : List X) (x y : X)
     (word : 0 < w) (whole : (d : ℕ) × (c ≡ d * w)) (le : q < n) (all : n ≡ length xs)
     (at : x ≡ get_or xs q x) where
   -- the test of an element in the order
@@ -31,7 +34,8 @@ module _ {X : Type 0} (change : Bool → Bool) (m : Bool) (w c n q : ℕ) (big :
   spanned from end = with_span_changed change (row xs) (q * c + from) (q * c + end)
 
   -- an index of the element
-  here : (from end t : ℕ) → read_in m w (big y) ≡ with_span_changed change (read_in m w (big x)) from end → t < c →
+  here : (from end t : ℕ) → read_in m w (big y)
+      ≡ with_span_changed change (read_in m w (big x)) from end → t < c →
       row_has n c test (set xs q y) (q * c + t) ≡ (spanned from end).has (q * c + t)
   here from end t is b =
       elements_has_at n c test (set xs q y) q t le b ∙ at_element-set_same (λ x. test x t) xs q y
@@ -42,7 +46,8 @@ module _ {X : Type 0} (change : Bool → Bool) (m : Bool) (w c n q : ℕ) (big :
             (inl (omega arith)))
         | inr g ↦ elim (cases_lt t end) [
           | inl l ↦ inside_span change (read_in m w (big x)) from end t g l ∙ ap change old
-              ∙ sym (inside_span change (row xs) (q * c + from) (q * c + end) (q * c + t) (omega arith)
+              ∙ sym (inside_span change (row xs) (q * c + from) (q * c + end)
+              (q * c + t) (omega arith)
               (omega arith))
           | inr e ↦ outside_span change (read_in m w (big x)) from end t (inr e) ∙ old
               ∙ sym (outside_span change (row xs) (q * c + from) (q * c + end) (q * c + t)

@@ -1,11 +1,15 @@
 -- Sets after a change of each index of a span, and words of spans.
-use Rattle.std.proofs.Common.{◌≡◌, ℕ, ◌+◌, ◌-◌, ◌%◌, ◌^◌, ◌<◌, ◌≤◌, ◌⊎◌, Bool, true, false, not, ◌&&◌, ◌||◌, ◌==◌, nat_lt, nat_le, inl, inr, refl, sym, ap, ◌∙◌, arith, bit_and}
+use Rattle.std.proofs.Common.{◌≡◌, ℕ, ◌+◌, ◌-◌, ◌%◌, ◌^◌, ◌<◌, ◌≤◌, ◌⊎◌, Bool, true, false, not}
+use Rattle.std.proofs.Common.{◌&&◌, ◌||◌, ◌==◌, nat_lt, nat_le, inl, inr, refl, sym, ap, ◌∙◌, arith}
+use Rattle.std.proofs.Common.{bit_and}
 use Rattle.std.proofs.Math.Bool.{and-true}
 use Rattle.std.proofs.Math.Path.{fun_ext}
-use Rattle.std.proofs.lemmas.Bool.{cases_eq, cases_lt, eq-eqb, ne_eqb, lt-ltb, le-ltb, le-leb, lt-leb, and_right}
+use Rattle.std.proofs.lemmas.Bool.{cases_eq, cases_lt, eq-eqb, ne_eqb, lt-ltb, le-ltb, le-leb}
+use Rattle.std.proofs.lemmas.Bool.{lt-leb, and_right}
 use Rattle.bittle_bits.specs.BitPatterns.{bit_set}
 use Rattle.bittle_bits.specs.Orders.{read_in}
-use Rattle.bittle_bits.specs.PlainSet.{PlainSet, with_index, is_in_span, span_set, has_changed, with_span_changed, with_span, empty_set, full_set_from}
+use Rattle.bittle_bits.specs.PlainSet.{PlainSet, with_index, is_in_span, span_set, has_changed}
+use Rattle.bittle_bits.specs.PlainSet.{with_span_changed, with_span, empty_set, full_set_from}
 use Rattle.bittle_bits.specs.SetOperations.{combination_of, first_alone}
 use Rattle.bittle_bits.proofs.SetOperations.{combination-below, combination-outside}
 use Rattle.bittle_bits.proofs.WordOperations.{digits_first_alone, word_combined}
@@ -32,7 +36,8 @@ span-none c from end h =
 pub change-same : (f g : Bool → Bool) → f true ≡ g true → f false ≡ g false →
     (s : PlainSet) (from end : ℕ) → with_span_changed f s from end ≡ with_span_changed g s from end
 change-same f g at_true at_false s from end =
-    ap (λ h. with_span_changed h s from end) (fun_ext λ b. elim b as (λ b. f b ≡ g b) [ true ↦ at_true | false ↦ at_false ])
+    ap (λ h. with_span_changed h s from end)
+    (fun_ext λ b. elim b as (λ b. f b ≡ g b) [ true ↦ at_true | false ↦ at_false ])
 
 module _ (change : Bool → Bool) (s : PlainSet) where
   -- a number outside the span is a member exactly if it was one

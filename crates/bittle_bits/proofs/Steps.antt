@@ -1,17 +1,21 @@
 -- The parts of an iterator's step from the front or from the back: a scan of the word at the other
 -- end, a fetch of a word, and words that are passed over.
-use Rattle.std.proofs.Common.{◌≡◌, ℕ, ◌+◌, ◌-◌, ◌*◌, ◌<◌, ◌≤◌, Bool, true, false, not, cond, List, ◌++◌, Option, Some, None, refl, sym, ap, ◌∙◌, subst, arith, append_assoc, append-nil, le_trans}
+use Rattle.std.proofs.Common.{◌≡◌, ℕ, ◌+◌, ◌-◌, ◌*◌, ◌<◌, ◌≤◌, Bool, true, false, not, cond, List}
+use Rattle.std.proofs.Common.{◌++◌, Option, Some, None, refl, sym, ap, ◌∙◌, subst, arith}
+use Rattle.std.proofs.Common.{append_assoc, append-nil, le_trans}
 use Rattle.std.proofs.lemmas.Bool.{true≢false}
 use Rattle.std.proofs.Math.Nat.{mul-le-mul_right}
 use Rattle.std.specs.Option.{is_some}
-use Rattle.bittle_bits.specs.Buffers.{BufferPair, members_between, items_in, buffer_count, buffer_of, Refills, ScansFrom}
+use Rattle.bittle_bits.specs.Buffers.{BufferPair, members_between, items_in, buffer_count}
+use Rattle.bittle_bits.specs.Buffers.{buffer_of, Refills, ScansFrom}
 use Rattle.bittle_bits.specs.Ends.{with_end, YieldsFrom}
 use Rattle.bittle_bits.specs.PlainSet.{PlainSet}
 use Rattle.bittle_bits.specs.Searches.{PassesOver}
 use Rattle.bittle_bits.specs.Cursor.{items_left_in, walk_of, IsCounted}
 use Rattle.bittle_bits.specs.Walk.{Walk, Seeks, Steps, count_after}
 use Rattle.bittle_bits.specs.declared.internal.cursor.Cursor.{Cursor}
-use Rattle.bittle_bits.proofs.Items.{members_between-split, members_between-none, members_between-empty}
+use Rattle.bittle_bits.proofs.Items.{members_between-split, members_between-none}
+use Rattle.bittle_bits.proofs.Items.{members_between-empty}
 
 -- two parts of a step that yielded nothing are together one that yielded nothing
 pub seeks_on : {u v w : Walk} → Seeks u v → Seeks v w → Seeks u w

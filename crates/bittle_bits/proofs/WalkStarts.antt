@@ -1,5 +1,6 @@
 -- Where an iterator begins: with no word loaded, or with one word loaded.
-use Rattle.std.proofs.Common.{◌≡◌, ℕ, ◌+◌, ◌-◌, ◌*◌, ◌/◌, ◌<◌, ◌≤◌, None, refl, sym, ap, ◌∙◌, arith, append-nil}
+use Rattle.std.proofs.Common.{◌≡◌, ℕ, ◌+◌, ◌-◌, ◌*◌, ◌/◌, ◌<◌, ◌≤◌, None, refl, sym, ap, ◌∙◌, arith}
+use Rattle.std.proofs.Common.{append-nil}
 use Rattle.std.proofs.Math.Nat.{mul-div_left, mul-le-mul_right, zero-mul}
 use Rattle.bittle_bits.specs.Buffers.{BufferPair}
 use Rattle.bittle_bits.specs.PlainSet.{PlainSet}

@@ -1,5 +1,6 @@
 -- The calls on one index of a word, by a mask whose only member is that index.
-use Rattle.std.proofs.Common.{◌≡◌, ℕ, ◌-◌, ◌%◌, ◌^◌, ◌<◌, Bool, true, not, ◌&&◌, ◌||◌, ◌==◌, nat_lt, ◌⊎◌, inl, inr, refl, sym, ap, ◌∙◌, arith, bit_and, bit_or}
+use Rattle.std.proofs.Common.{◌≡◌, ℕ, ◌-◌, ◌%◌, ◌^◌, ◌<◌, Bool, true, not, ◌&&◌, ◌||◌, ◌==◌, nat_lt}
+use Rattle.std.proofs.Common.{◌⊎◌, inl, inr, refl, sym, ap, ◌∙◌, arith, bit_and, bit_or}
 use Rattle.std.proofs.Math.Bool.{and-true, or-false, or_comm}
 use Rattle.std.proofs.Math.Path.{fun_ext}
 use Rattle.std.proofs.Math.Nat.{mod-eq_of_lt}
@@ -8,7 +9,8 @@ use Rattle.std.proofs.lemmas.Bool.{cases_eq, eq-eqb, ne_eqb, eqb-true, and_parts
 use Rattle.bittle_bits.specs.BitPatterns.{bit_has, bit_set}
 use Rattle.bittle_bits.specs.Orders.{place, read_in}
 use Rattle.bittle_bits.specs.PlainSet.{contains, with_index, without_index, empty_set, lacks}
-use Rattle.bittle_bits.proofs.BitSets.{bit_has-and, bit_has-or, bit_has-not, bit_has-pow, bit_has-zero, some_digit}
+use Rattle.bittle_bits.proofs.BitSets.{bit_has-and, bit_has-or, bit_has-not, bit_has-pow}
+use Rattle.bittle_bits.proofs.BitSets.{bit_has-zero, some_digit}
 use Rattle.bittle_bits.proofs.PlaceLemmas.{place_eq, place_in_word, place-place, mirror_in_word}
 use Rattle.bittle_bits.proofs.PlainSets.{plain_set, contains_in, has_with-in, with_in, without_in}
 

@@ -1,18 +1,22 @@
 -- The least and the greatest set bit of a word.
-use Rattle.std.proofs.Common.{◌≡◌, ℕ, zero, suc, ◌-◌, ◌*◌, ◌/◌, ◌%◌, ◌^◌, ◌<◌, ◌⊎◌, Bool, true, false, not, ◌&&◌, ◌==◌, cond, nat_lt, bit_and, inl, inr, refl, sym, ap, ◌∙◌, arith, subst}
+use Rattle.std.proofs.Common.{◌≡◌, ℕ, zero, suc, ◌-◌, ◌*◌, ◌/◌, ◌%◌, ◌^◌, ◌<◌, ◌⊎◌, Bool, true}
+use Rattle.std.proofs.Common.{false, not, ◌&&◌, ◌==◌, cond, nat_lt, bit_and, inl, inr, refl, sym}
+use Rattle.std.proofs.Common.{ap, ◌∙◌, arith, subst}
 use mathlib.Core.Bool.{beq}
 use Rattle.std.proofs.Math.Nat.{mod-eq_of_lt}
 use Rattle.std.proofs.Math.Path.{fun_ext}
 use Rattle.std.specs.Int.{bit_at}
 use Rattle.std.specs.Int.Count.{count_leading_zeros, count_trailing_zeros, leading_of_zero}
 use Rattle.std.proofs.lemmas.Nat.{trailing_le, leading_le, leading_top, mod_below, div-add-mod'}
-use Rattle.std.proofs.lemmas.Nat.Bits.{bit_at-suc, bit_at_lowest, bit_at_above, bit_at-lt, bit_at-zero, bit_at-pow_same, bit_at-pow_other}
+use Rattle.std.proofs.lemmas.Nat.Bits.{bit_at-suc, bit_at_lowest, bit_at_above, bit_at-lt}
+use Rattle.std.proofs.lemmas.Nat.Bits.{bit_at-zero, bit_at-pow_same, bit_at-pow_other}
 use Rattle.std.proofs.lemmas.Bool.{cases_eq, cases_lt, and_right, eq-eqb, ne_eqb, true≢false}
 use Rattle.std.proofs.Math.Bool.{and_self}
 use Rattle.bittle_bits.specs.BitPatterns.{bit_has, bit_set}
 use Rattle.bittle_bits.specs.Ends.{with_end, IsEndMember}
 use Rattle.bittle_bits.specs.Orders.{mirror, place, read_in}
-use Rattle.bittle_bits.specs.PlainSet.{PlainSet, without_index, complement, ascending, IsLeastMember, IsGreatestMember}
+use Rattle.bittle_bits.specs.PlainSet.{PlainSet, without_index, complement, ascending}
+use Rattle.bittle_bits.specs.PlainSet.{IsLeastMember, IsGreatestMember}
 use Rattle.bittle_bits.proofs.AscendingLists.{end-none, end-taken}
 use Rattle.bittle_bits.proofs.BitSets.{bit_has-at, bit_has-and, bit_has-not, top_digit}
 use Rattle.bittle_bits.proofs.PlaceLemmas.{mirror-mirror, mirror_in_word, place_eq}

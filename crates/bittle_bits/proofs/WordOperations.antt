@@ -1,5 +1,6 @@
 -- The operations on two words.
-use Rattle.std.proofs.Common.{◌≡◌, ℕ, ◌+◌, ◌-◌, ◌*◌, ◌%◌, ◌^◌, ◌<◌, Bool, not, ◌&&◌, ◌||◌, ◌==◌, inl, inr, sym, ap, ◌∙◌, arith, bit_and, bit_or, bit_xor}
+use Rattle.std.proofs.Common.{◌≡◌, ℕ, ◌+◌, ◌-◌, ◌*◌, ◌%◌, ◌^◌, ◌<◌, Bool, not, ◌&&◌, ◌||◌, ◌==◌}
+use Rattle.std.proofs.Common.{inl, inr, sym, ap, ◌∙◌, arith, bit_and, bit_or, bit_xor}
 use Rattle.std.proofs.Math.Path.{fun_ext}
 use Rattle.std.specs.Int.{bit_at}
 use Rattle.std.proofs.lemmas.Nat.Bits.{bit_at_xor, bit_at-lt}
@@ -11,7 +12,8 @@ use Rattle.bittle_bits.specs.PlainSet.{lacks}
 use Rattle.bittle_bits.specs.SetOperations.{combination_of, first_alone, just_one}
 use Rattle.bittle_bits.proofs.BitSets.{bit_has-and, bit_has-or, bit_has-not, bit_has-at}
 use Rattle.bittle_bits.proofs.PlainSets.{plain_set}
-use Rattle.bittle_bits.proofs.SetOperations.{combination-below, combination-outside, members-combination}
+use Rattle.bittle_bits.proofs.SetOperations.{combination-below, combination-outside}
+use Rattle.bittle_bits.proofs.SetOperations.{members-combination}
 
 -- an operation on each bit of two words
 module _ (f : Bool → Bool → Bool) (w a b r : ℕ) where

@@ -1,5 +1,6 @@
 -- How many bits of a word are set, and whether any is.
-use Rattle.std.proofs.Common.{◌≡◌, ℕ, zero, suc, ◌+◌, ◌-◌, ◌*◌, ◌%◌, ◌^◌, ◌<◌, Bool, ◌&&◌, ◌==◌, cond, [], length, inl, inr, sym, ap, ◌∙◌, arith, add_comm}
+use Rattle.std.proofs.Common.{◌≡◌, ℕ, zero, suc, ◌+◌, ◌-◌, ◌*◌, ◌%◌, ◌^◌, ◌<◌, Bool, ◌&&◌, ◌==◌}
+use Rattle.std.proofs.Common.{cond, [], length, inl, inr, sym, ap, ◌∙◌, arith, add_comm}
 use Rattle.std.proofs.Math.Nat.{mod-eq_of_lt}
 use Rattle.std.specs.Int.{bit_at}
 use Rattle.std.specs.Int.Count.{ones, ones-ones}

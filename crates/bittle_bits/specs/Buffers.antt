@@ -1,5 +1,6 @@
 -- Buffered words: the items that remain in each, and what a scan takes.
-use Rattle.std.specs.Prelude.{◌≡◌, ◌≢◌, ℕ, ◌+◌, ◌-◌, ◌*◌, ◌<◌, Bool, true, false, cond, List, [], map, Option, Some, None, MatchBool, MatchOption}
+use Rattle.std.specs.Prelude.{◌≡◌, ◌≢◌, ℕ, ◌+◌, ◌-◌, ◌*◌, ◌<◌, Bool, true, false, cond, List, []}
+use Rattle.std.specs.Prelude.{map, Option, Some, None, MatchBool, MatchOption}
 use Rattle.bittle_bits.specs.BitPatterns.{bit_set}
 use Rattle.bittle_bits.specs.Ends.{with_end}
 use Rattle.bittle_bits.specs.Orders.{read_in}

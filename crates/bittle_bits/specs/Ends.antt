@@ -1,5 +1,6 @@
 -- The two ends of a set, its front and its back: `true` names the front.
-use Rattle.std.specs.Prelude.{◌≡◌, ℕ, Bool, true, false, not, nat_lt, List, [], ◌∷◌, ◌++◌, Option, MatchOption}
+use Rattle.std.specs.Prelude.{◌≡◌, ℕ, Bool, true, false, not, nat_lt, List, [], ◌∷◌, ◌++◌, Option}
+use Rattle.std.specs.Prelude.{MatchOption}
 use Rattle.bittle_bits.specs.PlainSet.{PlainSet, IsLeastMember, IsGreatestMember}
 use Rattle.bittle_bits.specs.Searches.{IsFirstIn, IsLastIn}
 

@@ -1,5 +1,7 @@
 -- What a join yields: the items of an iterator at the members of a mask.
-use Rattle.std.specs.Prelude.{◌≡◌, ℕ, ◌+◌, ◌-◌, ◌<◌, ◌≤◌, Bool, true, false, List, [], ◌∷◌, ◌++◌, length, take, drop, Option, None, MatchOption, slice_get, slice_index, ⊤}
+use Rattle.std.specs.Prelude.{◌≡◌, ℕ, ◌+◌, ◌-◌, ◌<◌, ◌≤◌, Bool, true, false, List, [], ◌∷◌, ◌++◌}
+use Rattle.std.specs.Prelude.{length, take, drop, Option, None, MatchOption, slice_get, slice_index}
+use Rattle.std.specs.Prelude.{⊤}
 use Rattle.std.specs.Iterator.{SkipsThenYields, Yields, YieldsThen}
 use Rattle.bittle_bits.specs.Walk.{Walk}
 
@@ -30,14 +32,17 @@ module _ {I A : Type 0} (steps : I → Option A → I → Type 0) where
   -- item at position m of the iterator, counted from the iterator's first item, or `None` if there
   -- is no such item. If no member is left, the call takes nothing and returns `None`.
   abbrev pub JoinsNext : List ℕ → Join I → Option A → Join I → Type 0
-  JoinsNext [] s r t = (r ≡ None) × (t.mask.remaining ≡ []) × (t.iter ≡ s.iter) × (t.taken ≡ s.taken)
-  JoinsNext (m ∷ ms) s r t = (t.mask.remaining ≡ ms) × (t.taken ≡ m + 1) × SkipsThenYields steps s.iter
+  JoinsNext [] s r t = (r ≡ None) × (t.mask.remaining ≡ []) × (t.iter ≡ s.iter)
+      × (t.taken ≡ s.taken)
+  JoinsNext (m ∷ ms) s r t = (t.mask.remaining ≡ ms) × (t.taken ≡ m + 1)
+      × SkipsThenYields steps s.iter
       (m - s.taken) r t.iter
 
   -- once it has returned `None`, a join returns `None` and steps neither its mask nor its iterator
   abbrev pub join_steps : Join I → Option A → Join I → Type 0
   join_steps s r t = MatchOption r (t.ended ≡ true) (λ _. t.ended ≡ false)
-      × (s.ended ≡ true → (r ≡ None) × (t ≡ s)) × (s.ended ≡ false → JoinsNext s.mask.remaining s r t)
+      × (s.ended ≡ true → (r ≡ None) × (t ≡ s))
+      × (s.ended ≡ false → JoinsNext s.mask.remaining s r t)
 
 -- The items `taken` were taken from an iterator whose next item was at position `from`. They go up
 -- to the position of the last member that has an answer. Answer k is the taken item whose position
@@ -56,7 +61,8 @@ module _ {I A : Type 0} (steps : I → Option A → I → Type 0) (s : Join I) w
   AnswersItemsAtMembers = (answers : List A) (t : Join I) → Yields (join_steps steps) s answers t
       → (taken : List A) × Yields steps s.iter taken t.iter
       × IsJoin s.taken s.mask.remaining taken answers
-      × (t.mask.remaining ≡ drop (length answers) s.mask.remaining) × (t.taken ≡ s.taken + length taken)
+      × (t.mask.remaining ≡ drop (length answers) s.mask.remaining)
+      × (t.taken ≡ s.taken + length taken)
       × (t.ended ≡ false)
 
   -- If no member was left, no further item was taken. Else the iterator ended, and it has no item

@@ -1,5 +1,6 @@
 -- Proofs of the laws that the impls of the traits state.
-use Rattle.std.proofs.Common.{◌≡◌, ℕ, ◌+◌, ◌*◌, ◌^◌, ◌≤◌, ◌<◌, ℤ, Bool, ◌&&◌, List, [], refl, true, false, nat_eq, min, IsTrue, inl, inr, sym, ap, ◌∙◌, arith}
+use Rattle.std.proofs.Common.{◌≡◌, ℕ, ◌+◌, ◌*◌, ◌^◌, ◌≤◌, ◌<◌, ℤ, Bool, ◌&&◌, List, [], refl, true}
+use Rattle.std.proofs.Common.{false, nat_eq, min, IsTrue, inl, inr, sym, ap, ◌∙◌, arith}
 use Rattle.std.proofs.lemmas.Bool.{cases_lt, le-ltb, eqb-true}
 use Rattle.std.proofs.lemmas.Nat.{pow_pos}
 use Rattle.std.specs.Cmp.{signed_Decides}

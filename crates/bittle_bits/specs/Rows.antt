@@ -1,5 +1,6 @@
 -- A row of elements, as in an array or a slice, as one set.
-use Rattle.std.specs.Prelude.{◌≡◌, ℕ, zero, suc, ◌+◌, ◌<◌, ◌≤◌, ◌*◌, ◌/◌, ◌%◌, Bool, true, false, ◌&&◌, nat_lt, List, [], ◌∷◌, length, get_or}
+use Rattle.std.specs.Prelude.{◌≡◌, ℕ, zero, suc, ◌+◌, ◌<◌, ◌≤◌, ◌*◌, ◌/◌, ◌%◌, Bool, true, false}
+use Rattle.std.specs.Prelude.{◌&&◌, nat_lt, List, [], ◌∷◌, length, get_or}
 use Rattle.bittle_bits.specs.PlainSet.{PlainSet, with_index, without_index}
 use Rattle.bittle_bits.specs.SetOperations.{combination_of}
 

@@ -1,7 +1,8 @@
 //! Arrays as sets.
 
 ghost use Rattle.std.specs.Prelude.{◌≡◌, ◌*◌, ◌&&◌, Bool, nat_lt, refl};
-ghost use Rattle.bittle_bits.specs.RowLawProofs.{row_has-past, words_of, second_is_below, equal_rows};
+ghost use Rattle.bittle_bits.specs.RowLawProofs.{row_has-past, words_of, second_is_below};
+ghost use Rattle.bittle_bits.specs.RowLawProofs.{equal_rows};
 ghost use Rattle.bittle_bits.specs.Orders.{read_in};
 ghost use Rattle.bittle_bits.specs.Rows.{row_set};
 ghost use Rattle.bittle_bits.specs.SetOperations.{combination_of};

@@ -2,8 +2,11 @@
 
 ghost use Rattle.std.specs.Prelude.{◌≡◌, ◌*◌, ◌<◌, ◌≤◌, Bool, true, IsTrue};
 ghost use Rattle.bittle_bits.specs.BitPatterns.{bit_set};
-ghost use Rattle.bittle_bits.specs.PlainSet.{with_index, without_index, with_span_changed, with_span, without_span, with_span_toggled, without_members};
-ghost use Rattle.bittle_bits.specs.SetOperations.{combination_of, union_of, conjunction_of, difference_of, symmetric_difference_of};
+ghost use Rattle.bittle_bits.specs.PlainSet.{with_index, without_index, with_span_changed};
+ghost use Rattle.bittle_bits.specs.PlainSet.{with_span, without_span, with_span_toggled};
+ghost use Rattle.bittle_bits.specs.PlainSet.{without_members};
+ghost use Rattle.bittle_bits.specs.SetOperations.{combination_of, union_of, conjunction_of};
+ghost use Rattle.bittle_bits.specs.SetOperations.{difference_of, symmetric_difference_of};
 ghost use Rattle.bittle_bits.specs.Values.{set_in, set_mirrored, ShapeFits};
 ghost use Rattle.bittle_bits.specs.Words.{ReplacesWord};
 
@@ -71,7 +74,8 @@ pub trait BitsMut: Bits {
         requires ordered { from ≤ to }
         requires within { to ≤ (Self.big self.old).capacity }
         ensures set { set_in Self.Shape E.Endian self.new
-            ≡ with_span_changed (λ b. O.decide b true) (set_in Self.Shape E.Endian self.old) from to }
+            ≡ with_span_changed (λ b. O.decide b true)
+            (set_in Self.Shape E.Endian self.old) from to }
         ensures stays { Self.loan self.old ≡ Self.loan self.new };
 
     /// Changes the set to the result of the operation `O` on the set and `other`. With `Union` the

@@ -1,8 +1,10 @@
 //! The calls on sets that own their bits.
 
 ghost use Rattle.std.specs.Prelude.{◌≡◌, ℕ, ◌*◌, ◌<◌, Bool, IsTrue};
-ghost use Rattle.bittle_bits.specs.PlainSet.{empty_set, full_set, with_index, without_index, ascending, complement};
-ghost use Rattle.bittle_bits.specs.SetOperations.{union_of, conjunction_of, difference_of, symmetric_difference_of};
+ghost use Rattle.bittle_bits.specs.PlainSet.{empty_set, full_set, with_index, without_index};
+ghost use Rattle.bittle_bits.specs.PlainSet.{ascending, complement};
+ghost use Rattle.bittle_bits.specs.SetOperations.{union_of, conjunction_of, difference_of};
+ghost use Rattle.bittle_bits.specs.SetOperations.{symmetric_difference_of};
 ghost use Rattle.bittle_bits.specs.Shapes.{Fits};
 ghost use Rattle.bittle_bits.specs.Values.{set_in, set_mirrored, ShapeFits, word_count};
 ghost use Rattle.bittle_bits.specs.Walk.{AreBelow, IsFresh};

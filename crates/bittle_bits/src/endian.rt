@@ -2,7 +2,8 @@
 
 ghost use Rattle.std.specs.Prelude.{◌≡◌, ◌%◌, ◌<◌, Bool, true, false};
 ghost use Rattle.bittle_bits.specs.Orders as orders;
-ghost use Rattle.bittle_bits.specs.PlainSet.{empty_set, full_set_from, with_index, complement, IsLeastMember, IsGreatestMember};
+ghost use Rattle.bittle_bits.specs.PlainSet.{empty_set, full_set_from, with_index, complement};
+ghost use Rattle.bittle_bits.specs.PlainSet.{IsLeastMember, IsGreatestMember};
 ghost use Rattle.bittle_bits.specs.WordSets.{word_mirrored};
 
 use crate::internal::sealed::Sealed;
@@ -15,8 +16,8 @@ pub trait Endian: Drop {
     // Whether index 0 names the bit of greatest weight, as in little-endian order.
     ghost mirrored: { Bool };
 
-    /// Seals the trait. A crate that depends only on `bittle` cannot name the constant's type, so it
-    /// cannot implement the trait.
+    /// Seals the trait. A crate that depends only on `bittle` cannot name the constant's type, so
+    /// it cannot implement the trait.
     #[doc(hidden)]
     const SEAL: Sealed;
 

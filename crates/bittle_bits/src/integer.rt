@@ -2,7 +2,8 @@
 
 ghost use Rattle.std.specs.Prelude.{refl};
 ghost use Rattle.std.proofs.Common.{sym};
-ghost use Rattle.bittle_bits.specs.LawProofs.{IsWord, none_past_word, one_word_whole, positive_width, word_capacity};
+ghost use Rattle.bittle_bits.specs.LawProofs.{IsWord, none_past_word, one_word_whole};
+ghost use Rattle.bittle_bits.specs.LawProofs.{positive_width, word_capacity};
 
 use crate::bits::Bits;
 use crate::bits_mut::BitsMut;

@@ -14,8 +14,8 @@ pub trait Kind: Drop {
 
     const ONES: bool;
 
-    /// Seals the trait. A crate that depends only on `bittle` cannot name the constant's type, so it
-    /// cannot implement the trait.
+    /// Seals the trait. A crate that depends only on `bittle` cannot name the constant's type, so
+    /// it cannot implement the trait.
     #[doc(hidden)]
     const SEAL: Sealed;
 }

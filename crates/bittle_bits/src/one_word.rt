@@ -5,7 +5,9 @@
 ghost use Rattle.std.specs.Prelude.{◌≡◌, ◌==◌, Bool, ◌+◌, ◌*◌, ◌-◌, ◌<◌, ◌≤◌, true, IfSome};
 ghost use Rattle.bittle_bits.specs.Ends.{IsEndMember, YieldsFrom, YieldsPlace};
 ghost use Rattle.bittle_bits.specs.Orders.{place};
-ghost use Rattle.bittle_bits.specs.PlainSet.{contains, with_index, with_span_changed, without_index, empty_set, without_members, full_set, span_set, size, ascending};
+ghost use Rattle.bittle_bits.specs.PlainSet.{contains, with_index, with_span_changed};
+ghost use Rattle.bittle_bits.specs.PlainSet.{without_index, empty_set, without_members, full_set};
+ghost use Rattle.bittle_bits.specs.PlainSet.{span_set, size, ascending};
 ghost use Rattle.bittle_bits.specs.SetOperations.{combination_of};
 ghost use Rattle.bittle_bits.specs.Words.{ReplacesWord, word_of};
 ghost use Rattle.bittle_bits.specs.Values.{word_in};

@@ -19,14 +19,15 @@ use crate::word::Word;
 /// Searches, counts and iterators read sets through this trait. So each of them is written once,
 /// for all shapes and for all views of sets.
 pub trait ReadWords: Drop + Shape {
-    /// Whether all values of the type have the same number of words. It may be `false` even then.
+    /// Says whether all values of the type have the same number of words. It may be `false` even
+    /// then.
     ///
     /// It affects speed only, so it has no contract. It decides how an iterator begins, and whether
     /// a comparison of two sets begins with their first words alone.
     #[doc(hidden)]
     const IS_FIXED: bool = false;
 
-    /// Whether `pass_over` of a value of the type may skip words.
+    /// Says whether `pass_over` of a value of the type may skip words.
     ///
     /// It affects speed only, so it has no contract. It decides whether an array, a slice or a view
     /// of two sets calls `pass_over` of its parts, and whether a search of whole words reads them

@@ -39,8 +39,8 @@ pub trait Shape: Drop {
     // owned value the list is empty.
     ghost loan: { Self → List ℕ } = { λ _. [] };
 
-    /// Seals the trait. A crate that depends only on `bittle` cannot name the constant's type, so it
-    /// cannot implement the trait.
+    /// Seals the trait. A crate that depends only on `bittle` cannot name the constant's type, so
+    /// it cannot implement the trait.
     #[doc(hidden)]
     const SEAL: Sealed;
 }

@@ -2,7 +2,8 @@
 //! types. The project's own crates name the trait `Word`, which they import from
 //! [`extension`](crate::extension).
 
-ghost use Rattle.std.specs.Prelude.{◌≡◌, ℕ, ◌+◌, ◌-◌, ◌<◌, ◌^◌, ◌==◌, bit_and, bit_or, bit_xor, count_ones};
+ghost use Rattle.std.specs.Prelude.{◌≡◌, ℕ, ◌+◌, ◌-◌, ◌<◌, ◌^◌, ◌==◌, bit_and, bit_or, bit_xor};
+ghost use Rattle.std.specs.Prelude.{count_ones};
 ghost use Rattle.std.specs.Int.Count.{count_leading_zeros, count_trailing_zeros};
 ghost use Rattle.bittle_bits.specs.LawProofs.{positive_bytes};
 

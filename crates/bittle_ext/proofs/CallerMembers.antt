@@ -1,10 +1,16 @@
 -- The members of a set after calls on it, for proofs of callers.
-use Rattle.std.proofs.Common.{◌≡◌, ◌≢◌, ◌==◌, ◌&&◌, ◌||◌, ℕ, ◌+◌, ◌%◌, ◌<◌, ◌≤◌, Bool, true, false, not, cond, nat_lt, inl, inr, refl, sym, ap, ◌∙◌, arith}
+use Rattle.std.proofs.Common.{◌≡◌, ◌≢◌, ◌==◌, ◌&&◌, ◌||◌, ℕ, ◌+◌, ◌%◌, ◌<◌, ◌≤◌, Bool, true, false}
+use Rattle.std.proofs.Common.{not, cond, nat_lt, inl, inr, refl, sym, ap, ◌∙◌, arith}
 use Rattle.std.proofs.Math.Bool.{and-false, or-true}
-use Rattle.std.proofs.lemmas.Bool.{and_parts, cases_Bool, eq-eqb, ne_eqb, ltb-true, not-false, not-true}
-use Rattle.bittle.proofs.CallerChanges.{contains_after_clear, contains_after_set, contains_without_other, contains_with_other, size_inserted, size_with, size_without}
-use Rattle.bittle.proofs.CallerSets.{combination_within, complement_within, contains_within, size_whole, with_index_within, without_index_within}
-use Rattle.bittle.specs.PlainSet.{PlainSet, complement, contains, empty_set, lacks, size, with_index, without_index}
+use Rattle.std.proofs.lemmas.Bool.{and_parts, cases_Bool, eq-eqb, ne_eqb, ltb-true, not-false}
+use Rattle.std.proofs.lemmas.Bool.{not-true}
+use Rattle.bittle.proofs.CallerChanges.{contains_after_clear, contains_after_set}
+use Rattle.bittle.proofs.CallerChanges.{contains_without_other, contains_with_other, size_inserted}
+use Rattle.bittle.proofs.CallerChanges.{size_with, size_without}
+use Rattle.bittle.proofs.CallerSets.{combination_within, complement_within, contains_within}
+use Rattle.bittle.proofs.CallerSets.{size_whole, with_index_within, without_index_within}
+use Rattle.bittle.specs.PlainSet.{PlainSet, complement, contains, empty_set, lacks, size}
+use Rattle.bittle.specs.PlainSet.{with_index, without_index}
 use Rattle.bittle.specs.Searches.{NoneIn}
 use Rattle.bittle.specs.SetOperations.{combination_of, combination_has, union_of}
 use Rattle.bittle_ext.specs.Changes.{with_index_assigned, with_index_toggled}

@@ -1,9 +1,12 @@
 -- The spans of a set after calls on it, for proofs of callers.
-use Rattle.std.proofs.Common.{◌≡◌, ◌≢◌, ℕ, zero, suc, ◌+◌, ◌-◌, ◌%◌, ◌<◌, ◌≤◌, ◌⊎◌, Bool, true, false, cond, not, ◌&&◌, ◌||◌, ◌==◌, nat_lt, inl, inr, refl, sym, ap, ◌∙◌, arith}
+use Rattle.std.proofs.Common.{◌≡◌, ◌≢◌, ℕ, zero, suc, ◌+◌, ◌-◌, ◌%◌, ◌<◌, ◌≤◌, ◌⊎◌, Bool, true}
+use Rattle.std.proofs.Common.{false, cond, not, ◌&&◌, ◌||◌, ◌==◌, nat_lt, inl, inr, refl, sym, ap}
+use Rattle.std.proofs.Common.{◌∙◌, arith}
 use Rattle.std.proofs.Math.Bool.{and-false, or-true}
 use Rattle.std.proofs.Math.Nat.{div-add-mod', mod-eq_of_lt}
 use Rattle.std.proofs.lemmas.Bool.{and_parts, cases_eq, ne_eqb, le-leb, lt-ltb}
-use Rattle.bittle.specs.PlainSet.{PlainSet, contains, is_in_span, has_changed, has_with, has_without, with_index, with_span, without_index, without_span}
+use Rattle.bittle.specs.PlainSet.{PlainSet, contains, is_in_span, has_changed, has_with}
+use Rattle.bittle.specs.PlainSet.{has_without, with_index, with_span, without_index, without_span}
 use Rattle.bittle_bits.proofs.Spans.{inside_span, outside_span}
 use Rattle.bittle.proofs.CallerSets.{contains_within}
 use Rattle.bittle_ext.specs.ReservedSpans.{each_from, has_span}
@@ -80,7 +83,8 @@ has_span_if_each s from to all =
     each_passes s.has from (to - from) (λ k low up. all k low (omega (arith, low, up)))
 
 -- if `has_span` is true, each number of the span is a member
-pub each_if_has_span : (s : PlainSet) (from to : ℕ) → has_span s from to ≡ true → (k : ℕ) → from ≤ k →
+pub each_if_has_span : (s : PlainSet) (from to : ℕ) → has_span s from to ≡ true →
+    (k : ℕ) → from ≤ k →
     k < to → s.has k ≡ true
 unfolding has_span
 each_if_has_span s from to has k low up =

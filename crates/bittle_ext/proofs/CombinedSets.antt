@@ -1,7 +1,10 @@
 -- A set that is combined with another one, word by word, and whether that changes it.
-use Rattle.std.proofs.Common.{◌≡◌, ℕ, ◌+◌, ◌-◌, ◌*◌, ◌<◌, ◌≤◌, ◌==◌, ◌^◌, Bool, true, false, cond, not, ◌&&◌, ◌||◌, nat_lt, MatchBool, IsTrue, ◌↔◌, bit_xor, inl, inr, refl, sym, ap, ◌∙◌, arith}
+use Rattle.std.proofs.Common.{◌≡◌, ℕ, ◌+◌, ◌-◌, ◌*◌, ◌<◌, ◌≤◌, ◌==◌, ◌^◌, Bool, true, false, cond}
+use Rattle.std.proofs.Common.{not, ◌&&◌, ◌||◌, nat_lt, MatchBool, IsTrue, ◌↔◌, bit_xor, inl, inr}
+use Rattle.std.proofs.Common.{refl, sym, ap, ◌∙◌, arith}
 use Rattle.std.proofs.Math.Path.{fun_ext}
-use Rattle.std.proofs.lemmas.Bool.{cases_eq, cases_lt, eq-eqb, ne_eqb, lt-ltb, le-ltb, not-false, true≢false}
+use Rattle.std.proofs.lemmas.Bool.{cases_eq, cases_lt, eq-eqb, ne_eqb, lt-ltb, le-ltb, not-false}
+use Rattle.std.proofs.lemmas.Bool.{true≢false}
 use Rattle.bittle.specs.BitPatterns.{bit_has, bit_set}
 use Rattle.bittle.specs.Orders.{place, read_in}
 use Rattle.bittle.specs.PlainSet.{PlainSet, contains}
@@ -123,7 +126,8 @@ module _ {f : Bool → Bool → Bool} {m : Bool} {w k x y r : ℕ} {s t now : Pl
               rw (e ∙ ap not (ne_eqb z 0 some)) (
                 k * w + o,
                 omega (arith, low),
-                unlike _ _ (sym (parts o low) ∙ ap (bit_has w z) (place-place m w p.0 d.word) ∙ p.1),
+                unlike _ _ (sym (parts o low)
+                    ∙ ap (bit_has w z) (place-place m w p.0 d.word) ∙ p.1),
               )
         ]
 

@@ -1,5 +1,6 @@
 -- The words of the result of an operation on two sets.
-use Rattle.std.proofs.Common.{◌≡◌, ℕ, ◌*◌, ◌+◌, ◌/◌, ◌<◌, ◌≤◌, Bool, false, inl, inr, refl, sym, ap, ◌∙◌, arith}
+use Rattle.std.proofs.Common.{◌≡◌, ℕ, ◌*◌, ◌+◌, ◌/◌, ◌<◌, ◌≤◌, Bool, false, inl, inr, refl, sym, ap}
+use Rattle.std.proofs.Common.{◌∙◌, arith}
 use Rattle.std.proofs.Math.Path.{fun_ext}
 use Rattle.std.proofs.Math.Nat.{mul-div_left, mul-le-mul_right}
 use Rattle.std.proofs.lemmas.Bool.{cases_lt, le-ltb}
@@ -12,7 +13,8 @@ use Rattle.bittle.specs.Words.{word_has, word_of}
 use Rattle.bittle_bits.proofs.BitSets.{no_digits}
 use Rattle.bittle_bits.proofs.PlainSets.{plain_set}
 use Rattle.bittle_bits.proofs.PlaceLemmas.{place_past}
-use Rattle.bittle_bits.proofs.SetOperations.{combination-below, combination-outside, members-combination}
+use Rattle.bittle_bits.proofs.SetOperations.{combination-below, combination-outside}
+use Rattle.bittle_bits.proofs.SetOperations.{members-combination}
 use Rattle.bittle_bits.proofs.Words.{word_has-at, digit_at}
 use Rattle.bittle_ext.specs.Combined.{decided_set}
 

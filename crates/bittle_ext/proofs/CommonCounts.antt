@@ -1,5 +1,6 @@
 -- How many numbers are members of two sets.
-use Rattle.std.proofs.Common.{◌≡◌, ℕ, zero, suc, ◌+◌, ◌*◌, ◌/◌, ◌<◌, ◌≤◌, Bool, true, false, ◌&&◌, cond, min, max, Some, refl, sym, ap, ◌∙◌, arith}
+use Rattle.std.proofs.Common.{◌≡◌, ℕ, zero, suc, ◌+◌, ◌*◌, ◌/◌, ◌<◌, ◌≤◌, Bool, true, false, ◌&&◌}
+use Rattle.std.proofs.Common.{cond, min, max, Some, refl, sym, ap, ◌∙◌, arith}
 use Rattle.std.proofs.Math.Nat.{mul-le-mul_right, div-mul-le_self}
 use Rattle.bittle.specs.PlainSet.{PlainSet, count_below, members_below, size}
 use Rattle.bittle.specs.SetOperations.{first_alone, just_one}
@@ -52,9 +53,17 @@ pub counted_next : (s t : PlainSet) (from to index count next : ℕ) (b : Bool) 
     next ≡ members_below (both_of s t) (index + 1)
 counted_next s t from to index count next b first is before after =
     let u = both_of s t in
-    let stays = below_stays u from index first.0 (λ k p q. ap (λ a. a && t.has k) (first.3 k p q)) in
+    let stays = below_stays u from index first.0
+    (λ k p q. ap (λ a. a && t.has k) (first.3 k p q)) in
     let one : u.has index ≡ b = ap (λ a. a && t.has index) first.2 ∙ is in
-    omega (arith, after, before, stays, below_next u index ∙ ap (λ a. members_below u index + cond a 1 0) one)
+    omega (
+      arith,
+      after,
+      before,
+      stays,
+      below_next u index
+          ∙ ap (λ a. members_below u index + cond a 1 0) one,
+    )
 
 -- if the first set has no member in from..to, neither has the set of common members
 pub counted_all : (s t : PlainSet) (from to : ℕ) → from ≤ to → NoneIn s from to →

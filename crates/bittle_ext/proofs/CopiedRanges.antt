@@ -1,5 +1,6 @@
 -- Sets after a range was copied to them from a set.
-use Rattle.std.proofs.Common.{◌≡◌, ℕ, zero, suc, ◌+◌, ◌-◌, ◌*◌, ◌/◌, ◌%◌, ◌^◌, ◌<◌, ◌≤◌, ◌⊎◌, Bool, false, cond, ◌==◌, inl, inr, refl, sym, ap, ◌∙◌, arith}
+use Rattle.std.proofs.Common.{◌≡◌, ℕ, zero, suc, ◌+◌, ◌-◌, ◌*◌, ◌/◌, ◌%◌, ◌^◌, ◌<◌, ◌≤◌, ◌⊎◌, Bool}
+use Rattle.std.proofs.Common.{false, cond, ◌==◌, inl, inr, refl, sym, ap, ◌∙◌, arith}
 use Rattle.std.proofs.Math.Path.{fun_ext}
 use Rattle.std.proofs.lemmas.Bool.{cases_lt}
 use Rattle.std.proofs.lemmas.Nat.{div-add-mod', mod-mul-add, mod_below, pow_pos}
@@ -165,7 +166,8 @@ module _ (m : Bool) (w k first from count p r : ℕ) (s t u : PlainSet) (word : 
   }
 
   -- a number that lies in no copied place is as it was
-  all_here : (i : ℕ) → cond (is_in_span (k * w) ((k + 1) * w) i) (has_copied before first count u 0 i)
+  all_here : (i : ℕ) → cond (is_in_span (k * w) ((k + 1) * w) i)
+      (has_copied before first count u 0 i)
       (before.has i) ≡ has_copied before first count u 0 i
   all_here i =
       let g = has_copied before first count u 0 i in

@@ -1,5 +1,6 @@
 -- The digits of a set, one after another.
-use Rattle.std.proofs.Common.{◌≡◌, ℕ, zero, suc, ◌+◌, ◌<◌, Bool, [], ◌++◌, refl, sym, ap, ◌∙◌, arith}
+use Rattle.std.proofs.Common.{◌≡◌, ℕ, zero, suc, ◌+◌, ◌<◌, Bool, [], ◌++◌, refl, sym, ap, ◌∙◌}
+use Rattle.std.proofs.Common.{arith}
 use Rattle.std.proofs.lemmas.List.{append_assoc}
 use Rattle.bittle_ext.specs.Texts.{digit, digits_below}
 
@@ -28,7 +29,8 @@ pub digits_from : (p : ℕ → Bool) (from n : ℕ) →
     digits_below p (from + n) ≡ digits_below (λ i. p (from + i)) n ++ digits_below p from
 digits_from p from zero =
     let none : from + 0 ≡ from = omega arith in
-    ap (digits_below p) none ∙ sym (ap (λ xs. xs ++ digits_below p from) (digits_none (λ i. p (from + i))))
+    ap (digits_below p) none
+    ∙ sym (ap (λ xs. xs ++ digits_below p from) (digits_none (λ i. p (from + i))))
 digits_from p from (suc n) =
     let q : ℕ → Bool = λ i. p (from + i) in
     let next : from + suc n ≡ suc (from + n) = omega arith in

@@ -1,5 +1,7 @@
 -- The runs of a set begin and end, alternately, at the edges of the set.
-use Rattle.std.proofs.Common.{◌≡◌, ℕ, zero, suc, ◌+◌, ◌<◌, Bool, true, false, not, IsTrue, MatchBool, ◌⊎◌, List, [], ◌∷◌, ◌++◌, inl, inr, refl, sym, ap, ◌∙◌, subst, arith}
+use Rattle.std.proofs.Common.{◌≡◌, ℕ, zero, suc, ◌+◌, ◌<◌, Bool, true, false, not, IsTrue}
+use Rattle.std.proofs.Common.{MatchBool, ◌⊎◌, List, [], ◌∷◌, ◌++◌, inl, inr, refl, sym, ap, ◌∙◌}
+use Rattle.std.proofs.Common.{subst, arith}
 use Rattle.std.proofs.lemmas.Bool.{cases_Bool, ne_eqb, eq-eqb, true≢false}
 use mathlib.Core.Bool.{beq}
 use Rattle.std.specs.declared.ops.Range.{Range}
@@ -76,7 +78,8 @@ module _ (s : PlainSet) (c : ℕ) (end : c ≡ s.capacity) where
             let next = edge_is (suc k) (omega (arith, at)) ∙ (λ i. just_one (on i) (here i)) in
             rw (on, next) (
               begun_earlier k (ascending_from edge (suc (suc k)) n) ∙ ap (joined k) rest.0,
-              alternates_earlier k (ascending_from edge (suc (suc k)) n) (omega (arith, at)) here rest.1,
+              alternates_earlier k (ascending_from edge (suc (suc k)) n)
+                  (omega (arith, at)) here rest.1,
             )
         | inr off ↦
             let rest = (pairs n).0 (suc (suc k)) (omega (arith, at)) off in

@@ -1,5 +1,6 @@
 -- The words of a view of edges, and the words that it skips.
-use Rattle.std.proofs.Common.{◌≡◌, ℕ, ◌+◌, ◌-◌, ◌*◌, ◌^◌, ◌<◌, ◌≤◌, ◌⊎◌, Bool, true, false, max, inl, inr, refl, sym, ap, ◌∙◌, arith}
+use Rattle.std.proofs.Common.{◌≡◌, ℕ, ◌+◌, ◌-◌, ◌*◌, ◌^◌, ◌<◌, ◌≤◌, ◌⊎◌, Bool, true, false, max}
+use Rattle.std.proofs.Common.{inl, inr, refl, sym, ap, ◌∙◌, arith}
 use Rattle.std.proofs.Math.Nat.{mul-le-mul_right}
 use Rattle.std.proofs.Math.Path.{fun_ext}
 use Rattle.std.proofs.lemmas.Bool.{cases_lt, le-ltb}
@@ -12,7 +13,8 @@ use Rattle.bittle.specs.SetOperations.{combination_of, just_one}
 use Rattle.bittle.specs.Walk.{ones_or_zeros}
 use Rattle.bittle.specs.Words.{word_has, word_of}
 use Rattle.bittle_bits.specs.LawProofs.{bit_has-past}
-use Rattle.bittle_bits.proofs.OnesOrZeros.{ones_or_zeros-capacity, ones_or_zeros-members, passes_in_order}
+use Rattle.bittle_bits.proofs.OnesOrZeros.{ones_or_zeros-capacity, ones_or_zeros-members}
+use Rattle.bittle_bits.proofs.OnesOrZeros.{passes_in_order}
 use Rattle.bittle_bits.proofs.PlaceLemmas.{place_past}
 use Rattle.bittle_bits.proofs.PlainSets.{plain_set}
 use Rattle.bittle_bits.proofs.Words.{word_ends, word_has-at}
@@ -22,7 +24,8 @@ use Rattle.bittle_ext.specs.Rotations.{shifted_up, has_shifted_up, IsWindow}
 use Rattle.bittle_ext.specs.Views.{read_back}
 use Rattle.bittle_ext.proofs.CombinedWords.{decided_in_order, word_in_order}
 use Rattle.bittle_ext.proofs.RotatedSets.{up-before, up-inside, up-past}
-use Rattle.bittle_ext.proofs.ShiftedWords.{has_so_far_below, none_before, up_is, window_below, word_before}
+use Rattle.bittle_ext.proofs.ShiftedWords.{has_so_far_below, none_before, up_is, window_below}
+use Rattle.bittle_ext.proofs.ShiftedWords.{word_before}
 use Rattle.bittle_ext.proofs.ViewFacts.{read_back_is, word_read_back}
 
 -- a word has more than one bit
@@ -67,7 +70,12 @@ module _ (ones m : Bool) (w : ℕ) (s : PlainSet) (word : 0 < w)
     unfolding word_has
     moved window =
         let inside : k * w + w ≤ all.capacity =
-        omega (arith, word_ends w k s.capacity whole within, ones_or_zeros-capacity ones (read_in m w s)) in
+        omega (
+          arith,
+          word_ends w k s.capacity whole within,
+          ones_or_zeros-capacity ones
+              (read_in m w s),
+        ) in
         ap (plain_set w) (fun_ext λ i. elim (cases_lt i w) [
           | inl l ↦ window_below m w k 1 1 (w - 1) e d u kinds (omega arith) (omega (arith, word))
               first second window i l

@@ -1,11 +1,13 @@
 -- Sets that another set includes after calls on it, as an allocator's set includes its reserved
 -- numbers.
-use Rattle.std.proofs.Common.{◌≡◌, ℕ, ◌%◌, ◌<◌, ◌==◌, Bool, true, false, cond, not, ◌&&◌, ◌||◌, nat_lt, List, [], ◌∷◌, inl, inr, refl, sym, ap, ◌∙◌, arith}
+use Rattle.std.proofs.Common.{◌≡◌, ℕ, ◌%◌, ◌<◌, ◌==◌, Bool, true, false, cond, not, ◌&&◌, ◌||◌}
+use Rattle.std.proofs.Common.{nat_lt, List, [], ◌∷◌, inl, inr, refl, sym, ap, ◌∙◌, arith}
 use Rattle.std.specs.List.{fold}
 use Rattle.std.proofs.lemmas.Bool.{and_parts, cases_Bool, lt-ltb, ltb-true, ne_eqb, true≢false}
 use Rattle.std.proofs.lemmas.Nat.{mod_below}
 use Rattle.std.proofs.Math.Bool.{and-false, or-true}
-use Rattle.bittle.specs.PlainSet.{PlainSet, contains, has_changed, has_with, has_without, is_in_span, with_index, with_span, without_index}
+use Rattle.bittle.specs.PlainSet.{PlainSet, contains, has_changed, has_with, has_without}
+use Rattle.bittle.specs.PlainSet.{is_in_span, with_index, with_span, without_index}
 use Rattle.bittle_ext.specs.ReservedSpans.{includes}
 use Rattle.bittle_ext.proofs.CallerSpans.{each_passes, passes_each}
 

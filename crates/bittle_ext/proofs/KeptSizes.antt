@@ -1,9 +1,12 @@
 -- How many members a copied, shifted, grown or viewed set has, and how many are below a member.
-use Rattle.std.proofs.Common.{◌≡◌, ℕ, zero, suc, cond, Option, Some, None, MatchOption, slice_get, length, subst, ◌⊎◌, ◌+◌, ◌-◌, ◌<◌, ◌≤◌, Bool, true, false, ◌&&◌, List, [], ◌∷◌, inl, inr, refl, sym, ap, ◌∙◌, arith}
+use Rattle.std.proofs.Common.{◌≡◌, ℕ, zero, suc, cond, Option, Some, None, MatchOption, slice_get}
+use Rattle.std.proofs.Common.{length, subst, ◌⊎◌, ◌+◌, ◌-◌, ◌<◌, ◌≤◌, Bool, true, false, ◌&&◌, List}
+use Rattle.std.proofs.Common.{[], ◌∷◌, inl, inr, refl, sym, ap, ◌∙◌, arith}
 use Rattle.std.proofs.lemmas.Bool.{cases_lt, lt-ltb, true≢false}
 use Rattle.std.proofs.lemmas.Option.{slice_get-get_or}
 use Rattle.std.specs.List.{fold}
-use Rattle.bittle.specs.PlainSet.{PlainSet, ascending, count_below, is_in_span, members_below, size, with_index}
+use Rattle.bittle.specs.PlainSet.{PlainSet, ascending, count_below, is_in_span, members_below, size}
+use Rattle.bittle.specs.PlainSet.{with_index}
 use Rattle.bittle.specs.SetOperations.{first_alone}
 use Rattle.bittle_bits.proofs.Counts.{count-add, count-never, count-same}
 use Rattle.bittle_bits.proofs.Sizes.{size-le}

@@ -1,10 +1,12 @@
 -- The runs of a set are maximal, and each member lies in one of them.
-use Rattle.std.proofs.Common.{◌≡◌, ℕ, zero, suc, ◌+◌, ◌-◌, ◌<◌, ◌≤◌, Bool, true, false, List, [], ◌∷◌, length, ◌⊎◌, inl, inr, sym, ap, ◌∙◌, arith}
+use Rattle.std.proofs.Common.{◌≡◌, ℕ, zero, suc, ◌+◌, ◌-◌, ◌<◌, ◌≤◌, Bool, true, false, List, []}
+use Rattle.std.proofs.Common.{◌∷◌, length, ◌⊎◌, inl, inr, sym, ap, ◌∙◌, arith}
 use Rattle.std.proofs.lemmas.Bool.{cases_Bool, cases_eq, cases_lt, eq-eqb, ne_eqb, true≢false}
 use Rattle.std.specs.Prelude.{slice_index_or}
 use Rattle.std.specs.declared.ops.Range.{Range}
 use Rattle.bittle.specs.PlainSet.{PlainSet}
-use Rattle.bittle_ext.specs.Runs.{joined, runs_from, runs_between, runs, IsMaximalRun, HasMaximalRuns, RunsAreMaximal}
+use Rattle.bittle_ext.specs.Runs.{joined, runs_from, runs_between, runs, IsMaximalRun}
+use Rattle.bittle_ext.specs.Runs.{HasMaximalRuns, RunsAreMaximal}
 
 -- a number lies in a run of the list
 abbrev LiesIn : ℕ → List (Range ℕ) → Type 0

@@ -1,9 +1,12 @@
 -- Sets after one bit was changed in its word.
-use Rattle.std.proofs.Common.{◌≡◌, ℕ, ◌+◌, ◌-◌, ◌*◌, ◌/◌, ◌%◌, ◌^◌, ◌<◌, ◌≤◌, Bool, true, false, cond, not, ◌&&◌, ◌||◌, ◌==◌, nat_lt, inl, inr, refl, sym, ap, ◌∙◌, arith}
+use Rattle.std.proofs.Common.{◌≡◌, ℕ, ◌+◌, ◌-◌, ◌*◌, ◌/◌, ◌%◌, ◌^◌, ◌<◌, ◌≤◌, Bool, true, false}
+use Rattle.std.proofs.Common.{cond, not, ◌&&◌, ◌||◌, ◌==◌, nat_lt, inl, inr, refl, sym, ap, ◌∙◌}
+use Rattle.std.proofs.Common.{arith}
 use Rattle.std.proofs.Math.Bool.{and-true, or-false, or-true}
 use Rattle.std.proofs.Math.Path.{fun_ext}
 use Rattle.std.proofs.lemmas.Nat.{div-add-mod', div_below, mod_below}
-use Rattle.std.proofs.lemmas.Bool.{and_right, cases_eq, cases_lt, eq-eqb, lt-ltb, ne_eqb, true≢false}
+use Rattle.std.proofs.lemmas.Bool.{and_right, cases_eq, cases_lt, eq-eqb, lt-ltb, ne_eqb}
+use Rattle.std.proofs.lemmas.Bool.{true≢false}
 use Rattle.bittle.specs.BitPatterns.{bit_has, bit_set}
 use Rattle.bittle.specs.SetOperations.{combination_of, first_alone}
 use Rattle.bittle.specs.Walk.{ones_or_zeros}
@@ -15,7 +18,8 @@ use Rattle.bittle_bits.proofs.SetOperations.{combination-below}
 use Rattle.bittle_bits.proofs.WordOperations.{word_combined}
 use Rattle.bittle_bits.proofs.Words.{digit_at}
 use Rattle.bittle.specs.Orders.{place, read_in}
-use Rattle.bittle.specs.PlainSet.{PlainSet, complement, contains, empty_set, has_with, has_without, lacks, with_index, IsLeastMember}
+use Rattle.bittle.specs.PlainSet.{PlainSet, complement, contains, empty_set, has_with, has_without}
+use Rattle.bittle.specs.PlainSet.{lacks, with_index, IsLeastMember}
 use Rattle.bittle.proofs.CallerSets.{contains_within, with_index_within, without_index_within}
 use Rattle.bittle_ext.specs.Changes.{with_index_assigned}
 use Rattle.bittle_ext.proofs.RotatedSets.{contains_as}
@@ -50,8 +54,8 @@ holds_index m w v i d s word is within ours = record {
   ours = ours;
 }
 
--- r is the word d in which the operation decides about the place of index i, and t is the set with r
--- in the place of that word
+-- r is the word d in which the operation decides about the place of index i, and t is the set with
+-- r in the place of that word
 pub record CombinesIndex (f : Bool → Bool → Bool) (m : Bool) (w k i d r : ℕ) (s t : PlainSet) :
     Type 0 where
   pub keeps : (b : Bool) → f b false ≡ b
@@ -70,8 +74,8 @@ combined_alone f m w i d mask r word one is o h =
     ∙ ap (f ((read_in m w (bit_set w d)).has o)) (ap (λ u. u.has o) one
     ∙ ap (λ p. p o) (has_with-in (empty_set w) w i refl word) ∙ or-false (o == i % w))
 
--- a bit that loses its kind (if the second flag is true), or stays: it is cleared if its kind is that
--- of the set bits, and set if it is that of the unset bits
+-- a bit that loses its kind (if the second flag is true), or stays: it is cleared if its kind is
+-- that of the set bits, and set if it is that of the unset bits
 abbrev pub flipped : Bool → Bool → Bool → Bool
 flipped true = first_alone
 flipped false = ◌||◌
@@ -95,8 +99,10 @@ taken_alone w j p q pop o h = elim (cases_eq o j) [
   | inr n ↦ pop.others o h n ∙ sym (ap (λ b. p o && not b) (ne_eqb o j n) ∙ and-true (p o))
 ]
 
--- e has the bits of d that are of a kind: a place of e is set exactly if d has a bit of the kind there
-kind_digit : (ones m : Bool) (w d e o : ℕ) → bit_set w e ≡ ones_or_zeros ones (bit_set w d) → o < w →
+-- e has the bits of d that are of a kind: a place of e is set exactly if d has a bit of the kind
+-- there
+kind_digit : (ones m : Bool) (w d e o : ℕ) → bit_set w e
+    ≡ ones_or_zeros ones (bit_set w d) → o < w →
     (read_in m w (bit_set w e)).has o ≡ cond ones ((read_in m w (bit_set w d)).has o)
     (not ((read_in m w (bit_set w d)).has o))
 unfolding lacks
@@ -105,8 +111,8 @@ kind_digit false m w d e o is h =
     ap (λ u. u.has (place m w o)) is
     ∙ ap (λ b. b && not (bit_has w d (place m w o))) (lt-ltb _ _ (place_in_word m w o h))
 
--- e has the bits of d that are of a kind, loses its least one, and r has the rest of that kind: then r
--- is d with the bit at that place flipped
+-- e has the bits of d that are of a kind, loses its least one, and r has the rest of that kind:
+-- then r is d with the bit at that place flipped
 pub flipped_alone : (ones m : Bool) (w j d e rest r : ℕ) →
     bit_set w e ≡ ones_or_zeros ones (bit_set w d) →
     bit_set w r ≡ ones_or_zeros ones (bit_set w rest) →

@@ -1,11 +1,13 @@
 -- The members that pass a test are those that `retain` keeps, if its closure returns the test's
 -- result.
-use Rattle.std.proofs.Common.{◌≡◌, ◌⊎◌, ℕ, zero, suc, ◌≤◌, Bool, true, false, ◌&&◌, ◌∷◌, filter, inl, inr, refl, sym, ap, ◌∙◌, arith}
+use Rattle.std.proofs.Common.{◌≡◌, ◌⊎◌, ℕ, zero, suc, ◌≤◌, Bool, true, false, ◌&&◌, ◌∷◌, filter}
+use Rattle.std.proofs.Common.{inl, inr, refl, sym, ap, ◌∙◌, arith}
 use Rattle.std.specs.List.Retain.{IsFiltered}
 use Rattle.std.proofs.lemmas.Bool.{cases_Bool, cases_lt}
 use Rattle.std.proofs.lemmas.Fn.{filter_same}
 use Rattle.bittle.specs.PlainSet.{PlainSet, ascending, ascending_from}
-use Rattle.bittle_bits.proofs.AscendingLists.{ascending_from-zero, ascending_from-agree, ascending-yes, ascending-no}
+use Rattle.bittle_bits.proofs.AscendingLists.{ascending_from-zero, ascending_from-agree}
+use Rattle.bittle_bits.proofs.AscendingLists.{ascending-yes, ascending-no}
 use Rattle.bittle_ext.specs.Changes.{AnswersBy, those_passing, has_passing}
 
 -- the members that pass a test, listed

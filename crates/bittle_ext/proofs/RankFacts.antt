@@ -1,14 +1,18 @@
 -- How many members lie below a number, and which member has a given number of members below it.
-use Rattle.std.proofs.Common.{◌≡◌, ℕ, zero, suc, ◌+◌, ◌-◌, ◌*◌, ◌/◌, ◌<◌, ◌≤◌, true, false, not, cond, [], ◌∷◌, ◌++◌, length, length-append, append_assoc, ◌⊎◌, Some, None, inl, inr, refl, sym, ap, ◌∙◌, arith, min}
+use Rattle.std.proofs.Common.{◌≡◌, ℕ, zero, suc, ◌+◌, ◌-◌, ◌*◌, ◌/◌, ◌<◌, ◌≤◌, true, false, not}
+use Rattle.std.proofs.Common.{cond, [], ◌∷◌, ◌++◌, length, length-append, append_assoc, ◌⊎◌, Some}
+use Rattle.std.proofs.Common.{None, inl, inr, refl, sym, ap, ◌∙◌, arith, min}
 use Rattle.std.proofs.Math.Nat.{mul-div_left}
 use Rattle.std.specs.Prelude.{slice_get}
 use Rattle.std.proofs.lemmas.Bool.{cases_lt, cases_Bool}
 use Rattle.std.proofs.lemmas.Option.{slice_get_past, slice_get-get_or}
 use Rattle.std.proofs.Math.Seq.{get_or-append_seam}
-use Rattle.bittle.specs.PlainSet.{PlainSet, count_below, members_below, ascending_from, ascending, complement, size}
+use Rattle.bittle.specs.PlainSet.{PlainSet, count_below, members_below, ascending_from, ascending}
+use Rattle.bittle.specs.PlainSet.{complement, size}
 use Rattle.bittle.specs.Searches.{NoneIn}
 use Rattle.bittle.proofs.CallerSets.{complement_within}
-use Rattle.bittle_bits.proofs.AscendingLists.{ascending_from-length, ascending_from-zero, ascending-at, ascending-yes, ascending-no}
+use Rattle.bittle_bits.proofs.AscendingLists.{ascending_from-length, ascending_from-zero}
+use Rattle.bittle_bits.proofs.AscendingLists.{ascending-at, ascending-yes, ascending-no}
 use Rattle.bittle_bits.proofs.Counts.{count-add, count-same, count-never, count-others}
 
 -- no member lies below 0
@@ -95,7 +99,8 @@ pub not_selected : (s : PlainSet) (n : ℕ) → size s ≤ n → None ≡ slice_
 not_selected s n h = sym (slice_get_past (ascending s) n
     (omega (arith, ascending_from-length s.has s.capacity)))
 
--- an item of the list from a number on has as many members from there on below it as items before it
+-- an item of the list from a number on has as many members from there on below it as items before
+-- it
 counted : (s : PlainSet) (from n r i : ℕ) → slice_get (ascending_from s.has from n) r ≡ Some i →
     members_below s i ≡ members_below s from + r
 counted s from zero r i e =

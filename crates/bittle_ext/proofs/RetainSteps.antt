@@ -1,13 +1,17 @@
 -- The state of `retain` between calls of its closure: the members asked so far, and those that it
 -- keeps.
-use Rattle.std.proofs.Common.{◌≡◌, ℕ, suc, ◌+◌, ◌-◌, ◌<◌, ◌≤◌, Bool, true, false, not, ◌&&◌, cond, List, [], ◌∷◌, ◌++◌, append_assoc, append-nil, length, Some, refl, sym, ap, ◌∙◌, subst, arith}
+use Rattle.std.proofs.Common.{◌≡◌, ℕ, suc, ◌+◌, ◌-◌, ◌<◌, ◌≤◌, Bool, true, false, not, ◌&&◌, cond}
+use Rattle.std.proofs.Common.{List, [], ◌∷◌, ◌++◌, append_assoc, append-nil, length, Some, refl}
+use Rattle.std.proofs.Common.{sym, ap, ◌∙◌, subst, arith}
 use Rattle.std.specs.List.{items_where_true}
 use Rattle.std.specs.List.Retain.{IsFiltered}
 use Rattle.std.proofs.lemmas.Bool.{ne_eqb, eq-eqb}
 use Rattle.bittle.specs.PlainSet.{PlainSet, ascending, ascending_from, size, without_index}
 use Rattle.bittle.specs.Searches.{IsFirstIn, NoneIn}
 use Rattle.bittle.proofs.CallerSets.{without_index_within}
-use Rattle.bittle_bits.proofs.AscendingLists.{ascending-length, ascending_from-zero, ascending_from-add, ascending_from-same, ascending_from-none, ascending-yes, ascending-no}
+use Rattle.bittle_bits.proofs.AscendingLists.{ascending-length, ascending_from-zero}
+use Rattle.bittle_bits.proofs.AscendingLists.{ascending_from-add, ascending_from-same}
+use Rattle.bittle_bits.proofs.AscendingLists.{ascending_from-none, ascending-yes, ascending-no}
 use Rattle.bittle_bits.proofs.FirstItems.{ascending_from-least}
 use Rattle.bittle_ext.specs.Changes.{Retains}
 use Rattle.bittle_ext.proofs.PassingMembers.{kept_by_test}
@@ -74,7 +78,8 @@ module _ {F : Type 0} (R : F → ℕ → Bool → F → Type 0) where
 
   -- the closure was `first`, and is `keep` after its calls with the members of `old` below `from`;
   -- `now` has those of them that it kept, and the later members of `old`
-  pub record RetainsBelow (first : F) (old : PlainSet) (keep : F) (now : PlainSet) (from : ℕ) : Type 0 where
+  pub record RetainsBelow (first : F) (old : PlainSet) (keep : F) (now : PlainSet)
+      (from : ℕ) : Type 0 where
     pub capacity : now.capacity ≡ old.capacity
     pub within : from ≤ old.capacity
     pub same_on : (k : ℕ) → from ≤ k → now.has k ≡ old.has k

@@ -1,6 +1,7 @@
 -- A word in the middle of `retain`: the closure was called for some of its bits, which are kept or
 -- cleared.
-use Rattle.std.proofs.Common.{◌≡◌, ℕ, ◌+◌, ◌-◌, ◌*◌, ◌/◌, ◌%◌, ◌<◌, ◌≤◌, Bool, true, false, not, ◌&&◌, ◌||◌, ◌==◌, [], ◌∷◌, Some, inl, inr, refl, sym, ap, ◌∙◌, arith}
+use Rattle.std.proofs.Common.{◌≡◌, ℕ, ◌+◌, ◌-◌, ◌*◌, ◌/◌, ◌%◌, ◌<◌, ◌≤◌, Bool, true, false, not}
+use Rattle.std.proofs.Common.{◌&&◌, ◌||◌, ◌==◌, [], ◌∷◌, Some, inl, inr, refl, sym, ap, ◌∙◌, arith}
 use Rattle.std.proofs.Math.Bool.{or-false, or-true}
 use Rattle.std.proofs.Math.Nat.{mul-le-mul_right}
 use Rattle.std.proofs.lemmas.Nat.{div-mul-add, mod_below}
@@ -103,12 +104,14 @@ pub halfway_none : (m : Bool) (w k d r x : ℕ) (s : PlainSet) → 0 < w → d �
     bit_set w r ≡ word_of w s k → bit_set w x ≡ read_in m w (bit_set w r) →
     IsHalfway w k (bit_set w d).has (bit_set w x).has (read_in m w s) (read_in m w s) (k * w)
 halfway_none m w k d r x s word none is ordered =
-    let empty : (o : ℕ) → (bit_set w d).has o ≡ false = λ o. ap (λ p. p o) (bit_has-zero w d none) in
+    let empty : (o : ℕ) → (bit_set w d).has o ≡ false =
+    λ o. ap (λ p. p o) (bit_has-zero w d none) in
     record {
       capacity = refl;
       begins = omega arith;
       ends = omega arith;
-      here = λ o h. sym (digit_at m w k s r word is o h) ∙ sym (ap (λ (u : PlainSet). u.has o) ordered)
+      here = λ o h. sym (digit_at m w k s r word is o h)
+          ∙ sym (ap (λ (u : PlainSet). u.has o) ordered)
           ∙ sym (ap (λ b. b || (bit_set w x).has o) (empty o));
       others = λ i n. refl;
       kept_below = λ o h l. empty o;

@@ -1,10 +1,13 @@
 -- The 128 bits of a number, reversed.
-use Rattle.std.proofs.Common.{◌≡◌, ℕ, zero, suc, ◌+◌, ◌-◌, ◌*◌, ◌/◌, ◌%◌, ◌^◌, ◌<◌, ◌≤◌, Bool, true, ◌&&◌, ◌==◌, inl, inr, refl, sym, ap, ◌∙◌, arith, bit_and, bit_or, min, max}
+use Rattle.std.proofs.Common.{◌≡◌, ℕ, zero, suc, ◌+◌, ◌-◌, ◌*◌, ◌/◌, ◌%◌, ◌^◌, ◌<◌, ◌≤◌, Bool, true}
+use Rattle.std.proofs.Common.{◌&&◌, ◌==◌, inl, inr, refl, sym, ap, ◌∙◌, arith, bit_and, bit_or, min}
+use Rattle.std.proofs.Common.{max}
 use Rattle.std.specs.Int.{bit_at}
 use Rattle.std.proofs.Math.Nat.{mul-le-mul_right}
 use Rattle.std.proofs.lemmas.Bool.{and_parts, cases_eq, cases_lt, eqb-true}
 use Rattle.std.proofs.lemmas.Nat.{div-add-mod', div_below, mod_below, pow_pos}
-use Rattle.std.proofs.lemmas.Nat.Bits.{bit_at-lt, bit_at-zero, bit_at_and, bit_at_cat_high, bit_at_cat_low, bit_at_or}
+use Rattle.std.proofs.lemmas.Nat.Bits.{bit_at-lt, bit_at-zero, bit_at_and, bit_at_cat_high}
+use Rattle.std.proofs.lemmas.Nat.Bits.{bit_at_cat_low, bit_at_or}
 use Rattle.bittle.specs.Orders.{mirror}
 use Rattle.bittle_bits.proofs.PlaceLemmas.{mirror_at, mirror_in_word, mirror_is}
 use Rattle.bittle_ext.proofs.Windows.{bit_at_masked, bit_at_shifted}
@@ -60,7 +63,8 @@ module _ (c d mask x y z : ℕ) (some : 0 < d) (parts : c * (2 * d) ≡ 128)
       (eqb-true _ _ both.0, eqb-true _ _ both.1)
 
   ends : (q : ℕ) → q < c → q * (2 * d) + 2 * d ≤ 128
-  ends q h = let up : (q + 1) * (2 * d) ≤ c * (2 * d) = mul-le-mul_right (2 * d) (omega (arith, h)) in
+  ends q h = let up : (q + 1) * (2 * d) ≤ c * (2 * d) =
+      mul-le-mul_right (2 * d) (omega (arith, h)) in
       omega (arith, up, parts)
 
   bit : (i : ℕ) → i < 128 → bit_at z i ≡ max (bit_at (bit_and y mask * 2 ^ d) i)
@@ -148,11 +152,18 @@ unfolding all_below
 reversed_round x a b c d e f z s1 s2 s4 s8 s16 s32 s64 i h =
     let m0 : AreMirrored 1 x x = λ j l. ap (bit_at x) (sym (mirror_is 1 j (omega arith)
     ∙ omega (arith, div-add-mod' j 1, mod_below j 1 (omega arith)))) in
-    let m1 = mirrored_more 64 1 113427455640312821154458202477256070485 x x a (omega arith) (omega arith) refl s1 m0 in
-    let m2 = mirrored_more 32 2 68056473384187692692674921486353642291 x a b (omega arith) (omega arith) refl s2 m1 in
-    let m3 = mirrored_more 16 4 20016609818878733144904388672456953615 x b c (omega arith) (omega arith) refl s4 m2 in
-    let m4 = mirrored_more 8 8 1324055902416102970674609367438786815 x c d (omega arith) (omega arith) refl s8 m3 in
-    let m5 = mirrored_more 4 16 5192217631581220737344928932233215 x d e (omega arith) (omega arith) refl s16 m4 in
-    let m6 = mirrored_more 2 32 79228162495817593524129366015 x e f (omega arith) (omega arith) refl s32 m5 in
-    let m7 = mirrored_more 1 64 18446744073709551615 x f z (omega arith) (omega arith) refl s64 m6 in
+    let m1 = mirrored_more 64 1 113427455640312821154458202477256070485 x x a (omega arith)
+    (omega arith) refl s1 m0 in
+    let m2 = mirrored_more 32 2 68056473384187692692674921486353642291 x a b (omega arith)
+    (omega arith) refl s2 m1 in
+    let m3 = mirrored_more 16 4 20016609818878733144904388672456953615 x b c (omega arith)
+    (omega arith) refl s4 m2 in
+    let m4 = mirrored_more 8 8 1324055902416102970674609367438786815 x c d (omega arith)
+    (omega arith) refl s8 m3 in
+    let m5 = mirrored_more 4 16 5192217631581220737344928932233215 x d e (omega arith) (omega arith)
+    refl s16 m4 in
+    let m6 = mirrored_more 2 32 79228162495817593524129366015 x e f (omega arith) (omega arith)
+    refl s32 m5 in
+    let m7 = mirrored_more 1 64 18446744073709551615 x f z (omega arith) (omega arith)
+    refl s64 m6 in
     m7 i h ∙ ap (bit_at x) (mirror_in_word 128 i h)

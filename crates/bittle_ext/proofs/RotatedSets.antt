@@ -1,7 +1,9 @@
 -- Sets that are rotated or shifted, word by word.
-use Rattle.std.proofs.Common.{◌≡◌, ℕ, ◌+◌, ◌-◌, ◌*◌, ◌/◌, ◌%◌, ◌<◌, ◌≤◌, ◌⊎◌, Bool, false, ◌&&◌, nat_lt, nat_le, inl, inr, refl, sym, ap, ◌∙◌, arith}
+use Rattle.std.proofs.Common.{◌≡◌, ℕ, ◌+◌, ◌-◌, ◌*◌, ◌/◌, ◌%◌, ◌<◌, ◌≤◌, ◌⊎◌, Bool, false, ◌&&◌}
+use Rattle.std.proofs.Common.{nat_lt, nat_le, inl, inr, refl, sym, ap, ◌∙◌, arith}
 use Rattle.std.proofs.Math.Path.{fun_ext}
-use Rattle.std.proofs.Math.Nat.{add-mod_left, add-mod_right, add-mod-mod, mod-add-mod, add-mul-mod_self_right, mul-le-mul_right, mul-lt-mul_of_pos_right}
+use Rattle.std.proofs.Math.Nat.{add-mod_left, add-mod_right, add-mod-mod, mod-add-mod}
+use Rattle.std.proofs.Math.Nat.{add-mul-mod_self_right, mul-le-mul_right, mul-lt-mul_of_pos_right}
 use Rattle.std.proofs.lemmas.Nat.{div-add-mod', mod_below}
 use Rattle.std.proofs.lemmas.Bool.{cases_eq, cases_lt, lt-ltb, le-ltb, lt-leb, le-leb, and_right}
 use Rattle.bittle.specs.BitPatterns.{bit_set}
@@ -11,7 +13,9 @@ use Rattle.bittle.specs.Words.{word_of}
 use Rattle.bittle_bits.proofs.PlainSets.{plain_set}
 use Rattle.bittle_bits.proofs.Words.{digit_at, word_ends}
 use Rattle.bittle.proofs.CallerSets.{contains_within}
-use Rattle.bittle_ext.specs.Rotations.{has_rotated, rotated_down, rotated_up, has_shifted_down, shifted_down, has_shifted_up, shifted_up, IsDistance, IsWordAfter, IsWindow, IsWordFrom}
+use Rattle.bittle_ext.specs.Rotations.{has_rotated, rotated_down, rotated_up, has_shifted_down}
+use Rattle.bittle_ext.specs.Rotations.{shifted_down, has_shifted_up, shifted_up, IsDistance}
+use Rattle.bittle_ext.specs.Rotations.{IsWordAfter, IsWindow, IsWordFrom}
 
 -- two indexes that wrap to the same one are both members, or neither is
 pub contains_as : (s : PlainSet) (i j : ℕ) → i % s.capacity ≡ j % s.capacity →
@@ -23,7 +27,8 @@ contains_as s i j e = ap (λ k. nat_lt 0 s.capacity && s.has k) e
 pub contains_past : (s : PlainSet) (i j : ℕ) → i ≡ s.capacity + j → j < s.capacity →
     contains s i ≡ s.has j
 contains_past s i j e h =
-    contains_as s i j (ap (λ k. k % s.capacity) e ∙ add-mod_left s.capacity j) ∙ contains_within s j h
+    contains_as s i j (ap (λ k. k % s.capacity) e ∙ add-mod_left s.capacity j)
+    ∙ contains_within s j h
 
 -- each word begins below the capacity
 pub word_within : (w words k capacity : ℕ) → 0 < w → words * w ≡ capacity → k < words →
@@ -89,13 +94,15 @@ module _ (m : Bool) (w at from d e r : ℕ) (s : PlainSet) (word : 0 < w)
 
 -- if word `at` is `skipped` words above word k, and may wrap, an index of it wraps to the same one
 -- as that of word k plus `by`
-pub wrapped_at : (w c words by skipped from k at : ℕ) → words * w ≡ c → skipped * w + from ≡ by % c →
+pub wrapped_at : (w c words by skipped from k at : ℕ) → words * w ≡ c →
+    skipped * w + from ≡ by % c →
     (at ≡ k + skipped) ⊎ (at + words ≡ k + skipped) → (i : ℕ) →
     (at * w + from + i) % c ≡ (k * w + i + by) % c
 wrapped_at w c words by skipped from k at whole parts where_is i =
     elim where_is [
       | inl e ↦
-          let x : at * w + from + i ≡ k * w + i + by % c = omega (arith, ap (λ t. t * w) e, parts) in
+          let x : at * w + from + i ≡ k * w + i + by % c =
+          omega (arith, ap (λ t. t * w) e, parts) in
           ap (λ t. t % c) x ∙ add-mod-mod (k * w + i) by c
       | inr e ↦
           let x : at * w + from + i + c ≡ k * w + i + by % c =
@@ -104,7 +111,8 @@ wrapped_at w c words by skipped from k at whole parts where_is i =
           ∙ add-mod-mod (k * w + i) by c
     ]
 
-pub rotated-below : (s : PlainSet) (by k : ℕ) → k < s.capacity → has_rotated s by k ≡ contains s (k + by)
+pub rotated-below : (s : PlainSet) (by k : ℕ) → k < s.capacity → has_rotated s by k
+    ≡ contains s (k + by)
 unfolding has_rotated
 rotated-below s by k h = rw (lt-ltb k s.capacity h) refl
 
@@ -183,7 +191,8 @@ up-before s by k h = rw (lt-leb by k h) refl
 
 pub up-past : (s : PlainSet) (by k : ℕ) → s.capacity ≤ k → has_shifted_up s by k ≡ false
 unfolding has_shifted_up
-up-past s by k h = rw (le-ltb k s.capacity h) (ap (λ b. b && s.has (k - by)) (and_right (nat_le by k) false refl))
+up-past s by k h = rw (le-ltb k s.capacity h)
+    (ap (λ b. b && s.has (k - by)) (and_right (nat_le by k) false refl))
 
 -- a set shifted up by its capacity or more is empty
 pub all_up : (s : PlainSet) (by : ℕ) → s.capacity ≤ by → empty_set s.capacity ≡ shifted_up s by

@@ -1,9 +1,11 @@
 -- Sets that are rotated, first by whole words and then by bits, and the words that are written.
-use Rattle.std.proofs.Common.{◌≡◌, ◌≢◌, ℕ, ◌+◌, ◌-◌, ◌*◌, ◌/◌, ◌%◌, ◌<◌, ◌≤◌, ◌⊎◌, Bool, false, cond, nat_lt, nat_le, ◌==◌, inl, inr, refl, sym, ap, ◌∙◌, arith}
+use Rattle.std.proofs.Common.{◌≡◌, ◌≢◌, ℕ, ◌+◌, ◌-◌, ◌*◌, ◌/◌, ◌%◌, ◌<◌, ◌≤◌, ◌⊎◌, Bool, false}
+use Rattle.std.proofs.Common.{cond, nat_lt, nat_le, ◌==◌, inl, inr, refl, sym, ap, ◌∙◌, arith}
 use Rattle.std.proofs.Math.Path.{fun_ext}
 use Rattle.std.proofs.Math.Nat.{add-mod-mod, mod-eq_of_lt, mul-le-mul_right, lt_of_mul-lt-mul_right}
 use Rattle.std.proofs.lemmas.Nat.{div-add-mod', mod_below}
-use Rattle.std.proofs.lemmas.Bool.{cases_eq, cases_lt, eq-eqb, ne_eqb, lt-ltb, le-ltb, lt-leb, le-leb}
+use Rattle.std.proofs.lemmas.Bool.{cases_eq, cases_lt, eq-eqb, ne_eqb, lt-ltb, le-ltb, lt-leb}
+use Rattle.std.proofs.lemmas.Bool.{le-leb}
 use Rattle.bittle.specs.BitPatterns.{bit_set}
 use Rattle.bittle.specs.Orders.{read_in}
 use Rattle.bittle.specs.PlainSet.{PlainSet, contains, is_in_span}
@@ -12,9 +14,14 @@ use Rattle.bittle_bits.proofs.PlainSets.{members-past, plain_set}
 use Rattle.bittle_bits.proofs.Spans.{is_in_span-inside, is_in_span-outside}
 use Rattle.bittle_bits.proofs.Words.{digit_at, same_word}
 use Rattle.bittle.proofs.CallerSets.{contains_within}
-use Rattle.bittle_ext.specs.Rotations.{exchanged, has_rotated, has_shifted_down, HasWordsOf, mirrored_within, rotated_down, shifted_down, shifted_up, IsDistance, IsWindow, IsWordFrom}
-use Rattle.bittle_ext.proofs.RotatedSets.{contains_as, contains_past, down-inside, rotated-below, rotated-past, rotated_from, rotated_word, up-inside, up-past, window_from, word_within}
-use Rattle.bittle_ext.proofs.WordsReplaced.{adds_upward, all_replaced, more_replaced, none_replaced, replaced_where, rest_alike, AddsWord}
+use Rattle.bittle_ext.specs.Rotations.{exchanged, has_rotated, has_shifted_down, HasWordsOf}
+use Rattle.bittle_ext.specs.Rotations.{mirrored_within, rotated_down, shifted_down, shifted_up}
+use Rattle.bittle_ext.specs.Rotations.{IsDistance, IsWindow, IsWordFrom}
+use Rattle.bittle_ext.proofs.RotatedSets.{contains_as, contains_past, down-inside, rotated-below}
+use Rattle.bittle_ext.proofs.RotatedSets.{rotated-past, rotated_from, rotated_word, up-inside}
+use Rattle.bittle_ext.proofs.RotatedSets.{up-past, window_from, word_within}
+use Rattle.bittle_ext.proofs.WordsReplaced.{adds_upward, all_replaced, more_replaced, none_replaced}
+use Rattle.bittle_ext.proofs.WordsReplaced.{replaced_where, rest_alike, AddsWord}
 
 -- which number stands where i and j have changed places
 exchanged-second : (i j : ℕ) → exchanged i j j ≡ i
@@ -32,7 +39,8 @@ exchanged-other i j k n o = ap (λ b. cond b i (cond (k == i) j k)) (ne_eqb k j 
     ∙ ap (λ b. cond b j k) (ne_eqb k i n)
 
 -- a number of a span that is mirrored within it, and one that is not
-mirrored-inside : (from to k : ℕ) → from ≤ k → k < to → mirrored_within from to k ≡ from + to - 1 - k
+mirrored-inside : (from to k : ℕ) → from ≤ k → k < to → mirrored_within from to k
+    ≡ from + to - 1 - k
 unfolding mirrored_within
 mirrored-inside from to k low high =
     ap (λ b. cond b (from + to - 1 - k) k) (is_in_span-inside from to k low high)
@@ -48,7 +56,8 @@ ends_mirrored from to n k = cond (is_in_span (from + n) (to - n) k) k (mirrored_
 
 ends-inside : (from to n k : ℕ) → from + n ≤ k → k < to - n → ends_mirrored from to n k ≡ k
 ends-inside from to n k low high =
-    ap (λ b. cond b k (mirrored_within from to k)) (is_in_span-inside (from + n) (to - n) k low high)
+    ap (λ b. cond b k (mirrored_within from to k))
+    (is_in_span-inside (from + n) (to - n) k low high)
 
 ends-outside : (from to n k : ℕ) → (k < from + n) ⊎ (to - n ≤ k) →
     ends_mirrored from to n k ≡ mirrored_within from to k
@@ -106,7 +115,8 @@ ends_all from to n k h f = elim (cases_lt k (from + n)) [
   | inl l ↦ ends-outside from to n k (inl l)
   | inr g ↦ elim (cases_lt k (to - n)) [
     | inl l ↦ ends-inside from to n k g l
-        ∙ sym (mirrored-inside from to k (omega (arith, g)) (omega (arith, l)) ∙ omega (arith, g, l, h, f))
+        ∙ sym (mirrored-inside from to k (omega (arith, g)) (omega (arith, l))
+        ∙ omega (arith, g, l, h, f))
     | inr o ↦ ends-outside from to n k (inr o)
   ]
 ]
@@ -195,11 +205,13 @@ thrice : (by words k : ℕ) → by < words → k < words →
 thrice by words k fewer low =
     let x = 0 + words - 1 - k in
     rw (mirrored-inside 0 words k (omega arith) low) (elim (cases_lt (k + by) words) [
-      | inl l ↦ inl (ap (mirrored_within 0 by) (mirrored-inside by words x (omega (arith, l)) (omega (arith, low)))
+      | inl l ↦ inl (ap (mirrored_within 0 by)
+          (mirrored-inside by words x (omega (arith, l)) (omega (arith, low)))
           ∙ mirrored-outside 0 by (by + words - 1 - x) (inr (omega (arith, l)))
           ∙ omega (arith, l))
       | inr g ↦ inr (ap (λ n. n + words)
-          (ap (mirrored_within 0 by) (mirrored-outside by words x (inl (omega (arith, g, fewer, low))))
+          (ap (mirrored_within 0 by)
+          (mirrored-outside by words x (inl (omega (arith, g, fewer, low))))
           ∙ mirrored-inside 0 by x (omega arith) (omega (arith, g, fewer, low)))
           ∙ omega (arith, g, fewer, low))
     ])
@@ -305,7 +317,8 @@ word_rotated m w by p r s t word one low past also ours is replaced =
     let g = has_rotated u by in
     let gone = rotated-past u by in
     let none = members-past m w s word whole past in
-    let here = rotated_word m w w 1 0 by by 0 0 r u far (omega (arith, one)) (omega arith) (inl refl)
+    let here = rotated_word m w w 1 0 by by 0 0 r u far (omega (arith, one))
+    (omega arith) (inl refl)
     (window_from m w 0 by p p r s word whole low 0 (inl (omega (arith, one), refl)) ours ours is) in
     more_replaced m w 0 r (λ i. nat_lt i (0 * w)) (λ i. nat_lt i (1 * w)) g u s t word whole past
     also (adds_upward w 0 word) replaced here

@@ -1,5 +1,6 @@
 -- How many members a set has after a run of bits was set or cleared.
-use Rattle.std.proofs.Common.{◌≡◌, ℕ, ◌+◌, ◌-◌, ◌<◌, ◌≤◌, ◌⊎◌, Bool, true, false, not, inl, inr, sym, ◌∙◌, ap, arith}
+use Rattle.std.proofs.Common.{◌≡◌, ℕ, ◌+◌, ◌-◌, ◌<◌, ◌≤◌, ◌⊎◌, Bool, true, false, not, inl, inr}
+use Rattle.std.proofs.Common.{sym, ◌∙◌, ap, arith}
 use Rattle.std.proofs.lemmas.Bool.{not-true}
 use Rattle.bittle.specs.PlainSet.{PlainSet, complement, count_below, size, with_span}
 use Rattle.bittle.specs.Searches.{NoneIn}

@@ -1,10 +1,12 @@
 -- How many runs a list has, how far they reach, and in which order steps yield them.
-use Rattle.std.proofs.Common.{◌≡◌, ℕ, zero, suc, ◌-◌, ◌≤◌, ◌==◌, Bool, true, false, cond, List, [], ◌∷◌, length, ap, arith}
+use Rattle.std.proofs.Common.{◌≡◌, ℕ, zero, suc, ◌-◌, ◌≤◌, ◌==◌, Bool, true, false, cond, List, []}
+use Rattle.std.proofs.Common.{◌∷◌, length, ap, arith}
 use Rattle.std.specs.Iterator.{YieldsFirst, YieldsLast}
 use Rattle.std.proofs.iter.runs.Sources.{from_front, from_back, as_is, as_is_back}
 use Rattle.std.specs.declared.ops.Range.{Range}
 use Rattle.bittle.specs.PlainSet.{PlainSet}
-use Rattle.bittle_ext.specs.Runs.{run, joined, runs_from, runs_between, runs, AreRunsBelow, RunsInOrder, RunsInReverse}
+use Rattle.bittle_ext.specs.Runs.{run, joined, runs_from, runs_between, runs, AreRunsBelow}
+use Rattle.bittle_ext.specs.Runs.{RunsInOrder, RunsInReverse}
 use Rattle.bittle_ext.proofs.MaximalRuns.{runs_are_maximal}
 
 -- one number more adds at most one run
@@ -23,7 +25,8 @@ runs_length p from (suc n) =
     let rest = runs_length p (suc from) n in
     let more = joined_length from (runs_from p (suc from) n) in
     elim (p from) as (λ b. length (cond b (joined from (runs_from p (suc from) n))
-    (runs_from p (suc from) n)) ≤ suc n) [ true ↦ omega (arith, more) | false ↦ omega (arith, rest) ]
+    (runs_from p (suc from) n)) ≤ suc n)
+    [ true ↦ omega (arith, more) | false ↦ omega (arith, rest) ]
 
 -- the runs of a set end at or before its capacity, and are at most as many as the capacity
 pub are_runs_below : (s : PlainSet) (c : ℕ) (rs : List (Range ℕ)) → s.capacity ≡ c →

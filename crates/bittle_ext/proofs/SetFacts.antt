@@ -1,5 +1,6 @@
 -- Common members of two sets, and ranges of which each number is a member.
-use Rattle.std.proofs.Common.{◌≡◌, ℕ, ◌≤◌, Bool, true, false, not, ◌&&◌, Option, Some, None, is_some, MatchBool, inl, inr, refl, sym, ap, ◌∙◌, arith, min}
+use Rattle.std.proofs.Common.{◌≡◌, ℕ, ◌≤◌, Bool, true, false, not, ◌&&◌, Option, Some, None}
+use Rattle.std.proofs.Common.{is_some, MatchBool, inl, inr, refl, sym, ap, ◌∙◌, arith, min}
 use Rattle.std.proofs.lemmas.Bool.{cases_lt, and_right, not-false, not-true}
 use Rattle.bittle.specs.PlainSet.{PlainSet, complement}
 use Rattle.bittle.specs.Searches.{IsFirstIn}

@@ -1,5 +1,6 @@
 -- Sets that are shifted in place, word by word.
-use Rattle.std.proofs.Common.{◌≡◌, ℕ, ◌+◌, ◌-◌, ◌*◌, ◌<◌, ◌≤◌, Bool, false, cond, ◌&&◌, nat_lt, nat_le, inl, inr, sym, ap, ◌∙◌, arith}
+use Rattle.std.proofs.Common.{◌≡◌, ℕ, ◌+◌, ◌-◌, ◌*◌, ◌<◌, ◌≤◌, Bool, false, cond, ◌&&◌, nat_lt}
+use Rattle.std.proofs.Common.{nat_le, inl, inr, sym, ap, ◌∙◌, arith}
 use Rattle.std.proofs.Math.Nat.{mul-le-mul_right}
 use Rattle.std.proofs.lemmas.Bool.{cases_lt, le-ltb, lt-leb, le-leb}
 use Rattle.bittle.specs.BitPatterns.{bit_set}
@@ -40,7 +41,8 @@ window_above m w k by skipped from x y r set word parts within past first second
       | inl l ↦ is.first i l ∙ digit_at m w (k + skipped) set x word first (i + from) l
           ∙ ap s.has (omega (arith, parts))
       | inr g ↦ is.second i h g
-          ∙ digit_at m w (k + skipped + 1) set y word second (i + from - w) (omega (arith, h, g, within))
+          ∙ digit_at m w (k + skipped + 1) set y word second (i + from - w)
+          (omega (arith, h, g, within))
           ∙ ap s.has (omega (arith, parts, g))
     ] ∙ sym (down_is s by (k * w + i) past)
 

@@ -1,12 +1,16 @@
 -- The first run of n members, found word by word.
-use Rattle.std.proofs.Common.{◌≡◌, ℕ, ◌+◌, ◌-◌, ◌*◌, ◌/◌, ◌%◌, ◌<◌, ◌≤◌, Bool, true, false, not, ◌&&◌, nat_lt, Option, Some, None, inl, inr, refl, sym, ap, ◌∙◌, arith, bit_and}
+use Rattle.std.proofs.Common.{◌≡◌, ℕ, ◌+◌, ◌-◌, ◌*◌, ◌/◌, ◌%◌, ◌<◌, ◌≤◌, Bool, true, false, not}
+use Rattle.std.proofs.Common.{◌&&◌, nat_lt, Option, Some, None, inl, inr, refl, sym, ap, ◌∙◌, arith}
+use Rattle.std.proofs.Common.{bit_and}
 use Rattle.std.proofs.Math.Bool.{and_comm}
 use Rattle.std.proofs.Math.Nat.{lt_of_mul-lt-mul_right, mul-le-mul_right}
-use Rattle.std.proofs.lemmas.Bool.{cases_lt, lt-ltb, le-ltb, and_parts, and_right, true≢false, not-false, not-true}
+use Rattle.std.proofs.lemmas.Bool.{cases_lt, lt-ltb, le-ltb, and_parts, and_right, true≢false}
+use Rattle.std.proofs.lemmas.Bool.{not-false, not-true}
 use Rattle.std.proofs.lemmas.Nat.{div-add-mod', mod_below}
 use Rattle.bittle.specs.BitPatterns.{bit_has, bit_set}
 use Rattle.bittle.specs.Orders.{place, read_in}
-use Rattle.bittle.specs.PlainSet.{PlainSet, complement, full_set_from, is_in_span, IsGreatestMember, IsLeastMember}
+use Rattle.bittle.specs.PlainSet.{PlainSet, complement, full_set_from, is_in_span, IsGreatestMember}
+use Rattle.bittle.specs.PlainSet.{IsLeastMember}
 use Rattle.bittle.specs.Searches.{NoneIn}
 use Rattle.bittle.specs.Walk.{ones_or_zeros}
 use Rattle.bittle.specs.Words.{word_of}

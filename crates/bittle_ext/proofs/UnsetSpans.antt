@@ -1,8 +1,11 @@
 -- Spans of bits that stay unset after calls on a set, such as those past the last cell of a board.
-use Rattle.std.proofs.Common.{◌≡◌, ℕ, ◌+◌, ◌<◌, ◌≤◌, ◌⊎◌, Bool, true, false, cond, not, nat_lt, List, [], ◌∷◌, All, inl, inr, refl, sym, ap, ◌∙◌, arith}
+use Rattle.std.proofs.Common.{◌≡◌, ℕ, ◌+◌, ◌<◌, ◌≤◌, ◌⊎◌, Bool, true, false, cond, not, nat_lt}
+use Rattle.std.proofs.Common.{List, [], ◌∷◌, All, inl, inr, refl, sym, ap, ◌∙◌, arith}
 use Rattle.std.specs.List.{fold}
 use Rattle.std.proofs.lemmas.Bool.{and_parts, and_right, cases_Bool, ltb-true, not-true, true≢false}
-use Rattle.bittle.specs.PlainSet.{PlainSet, complement, contains, empty_set, has_changed, has_without, is_in_span, lacks, with_index, with_span, without_index, without_span}
+use Rattle.bittle.specs.PlainSet.{PlainSet, complement, contains, empty_set, has_changed}
+use Rattle.bittle.specs.PlainSet.{has_without, is_in_span, lacks, with_index, with_span}
+use Rattle.bittle.specs.PlainSet.{without_index, without_span}
 use Rattle.bittle.specs.Searches.{NoneIn}
 use Rattle.bittle.specs.SetOperations.{combination_of}
 use Rattle.bittle.proofs.CallerSets.{combination_within, complement_within, contains_within}

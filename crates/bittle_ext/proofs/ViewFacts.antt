@@ -1,11 +1,15 @@
 -- How the words of a view determine the view.
-use Rattle.std.proofs.Common.{◌≡◌, ℕ, ◌+◌, ◌-◌, ◌*◌, ◌%◌, ◌<◌, ◌≤◌, ◌==◌, ◌⊎◌, Bool, true, false, not, ◌&&◌, min, max, ◌++◌, append-nil, Option, Some, None, is_some, inl, inr, refl, sym, ap, ◌∙◌, arith}
+use Rattle.std.proofs.Common.{◌≡◌, ℕ, ◌+◌, ◌-◌, ◌*◌, ◌%◌, ◌<◌, ◌≤◌, ◌==◌, ◌⊎◌, Bool, true, false}
+use Rattle.std.proofs.Common.{not, ◌&&◌, min, max, ◌++◌, append-nil, Option, Some, None, is_some}
+use Rattle.std.proofs.Common.{inl, inr, refl, sym, ap, ◌∙◌, arith}
 use Rattle.std.proofs.Math.Nat.{mul-le-mul_right, mul-mod_left}
 use Rattle.std.proofs.Math.Path.{fun_ext}
-use Rattle.std.proofs.lemmas.Bool.{cases_lt, le-ltb, true≢false, eq-eqb, ne_eqb, and_right, not-false, not-true}
+use Rattle.std.proofs.lemmas.Bool.{cases_lt, le-ltb, true≢false, eq-eqb, ne_eqb, and_right}
+use Rattle.std.proofs.lemmas.Bool.{not-false, not-true}
 use Rattle.bittle.specs.BitPatterns.{bit_has, bit_set}
 use Rattle.bittle.specs.Orders.{place, read_in}
-use Rattle.bittle.specs.PlainSet.{PlainSet, contains, is_in_span, span_set, size, ascending, ascending_from}
+use Rattle.bittle.specs.PlainSet.{PlainSet, contains, is_in_span, span_set, size, ascending}
+use Rattle.bittle.specs.PlainSet.{ascending_from}
 use Rattle.bittle.specs.Searches.{IsFirstIn, PassesOver}
 use Rattle.bittle.specs.SetOperations.{combination_of}
 use Rattle.bittle.specs.Walk.{ones_or_zeros}
@@ -13,7 +17,8 @@ use Rattle.bittle.specs.Words.{word_has, word_of}
 use Rattle.bittle_bits.proofs.AscendingLists.{ascending_from-add, ascending_from-none}
 use Rattle.bittle_bits.proofs.BitSets.{no_digits}
 use Rattle.bittle_bits.proofs.OnesOrZeros.{ones_or_zeros-members}
-use Rattle.bittle_bits.proofs.PlaceLemmas.{place_below, place_past, place_part, place_in_word, place-place}
+use Rattle.bittle_bits.proofs.PlaceLemmas.{place_below, place_past, place_part, place_in_word}
+use Rattle.bittle_bits.proofs.PlaceLemmas.{place-place}
 use Rattle.bittle_bits.proofs.PlainSets.{plain_set, contains_in}
 use Rattle.bittle_bits.proofs.Sizes.{size-members}
 use Rattle.bittle_bits.proofs.Spans.{is_in_span-outside, is_in_span-inside}
@@ -225,7 +230,8 @@ module _ (ones m : Bool) (w from to low high q r : ℕ) (t : PlainSet) (word : 0
   outside : (i : ℕ) → (place m w i < from) ⊎ (to ≤ place m w i) →
       (read_back m w (kind_within ones t from to)).has i ≡ false
   outside i out = ap (λ (u : PlainSet). u.has i) (read_back_is m w (kind_within ones t from to))
-      ∙ ap (λ b. b && (ones_or_zeros ones t).has (place m w i)) (is_in_span-outside from to (place m w i) out)
+      ∙ ap (λ b. b && (ones_or_zeros ones t).has (place m w i))
+      (is_in_span-outside from to (place m w i) out)
 
   -- the words below word p have no member of a range that starts in no word below p
   ahead : (p : ℕ) → q * w ≤ from → p ≤ q → (i : ℕ) → i < p * w →

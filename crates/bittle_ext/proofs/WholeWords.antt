@@ -1,5 +1,6 @@
 -- Tests whether a set is empty or full.
-use Rattle.std.proofs.Common.{◌≡◌, ◌↔◌, ◌==◌, ℕ, Bool, true, false, inl, inr, IsTrue, not, Option, Some, None, is_some, refl, sym, ◌∙◌, arith}
+use Rattle.std.proofs.Common.{◌≡◌, ◌↔◌, ◌==◌, ℕ, Bool, true, false, inl, inr, IsTrue, not, Option}
+use Rattle.std.proofs.Common.{Some, None, is_some, refl, sym, ◌∙◌, arith}
 use Rattle.std.proofs.lemmas.Bool.{cases_Bool, cases_eq, eq-eqb, ne_eqb, true≢false}
 use Rattle.bittle.specs.PlainSet.{PlainSet, complement, size}
 use Rattle.bittle.specs.Searches.{IsFirstIn, NoneIn}

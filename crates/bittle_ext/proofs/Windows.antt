@@ -1,9 +1,11 @@
 -- The bits of two words, one after the other, from an index on.
-use Rattle.std.proofs.Common.{◌≡◌, ℕ, ◌+◌, ◌-◌, ◌*◌, ◌/◌, ◌%◌, ◌^◌, ◌<◌, ◌≤◌, true, ◌==◌, inl, inr, sym, ap, ◌∙◌, arith, bit_and, bit_or, pow_mono, shr_lt, shr-shr}
+use Rattle.std.proofs.Common.{◌≡◌, ℕ, ◌+◌, ◌-◌, ◌*◌, ◌/◌, ◌%◌, ◌^◌, ◌<◌, ◌≤◌, true, ◌==◌, inl, inr}
+use Rattle.std.proofs.Common.{sym, ap, ◌∙◌, arith, bit_and, bit_or, pow_mono, shr_lt, shr-shr}
 use Rattle.std.specs.Int.{bit_at}
 use Rattle.std.proofs.Math.Nat.{mul_assoc, mul-mod_left}
 use Rattle.std.proofs.Math.Pow.{mod-mod-pow}
-use Rattle.std.proofs.lemmas.Nat.{and_mask, mod_below, mod-pow-add, mul-add-lt, mul-mod_first, or_shifted, pow_pos, pow-add, shl-shr, shr_split}
+use Rattle.std.proofs.lemmas.Nat.{and_mask, mod_below, mod-pow-add, mul-add-lt, mul-mod_first}
+use Rattle.std.proofs.lemmas.Nat.{or_shifted, pow_pos, pow-add, shl-shr, shr_split}
 use Rattle.std.proofs.lemmas.Nat.Bits.{bit_at_cat_low, bit_at_cat_high}
 use Rattle.std.proofs.lemmas.Bool.{cases_lt}
 use Rattle.bittle.specs.BitPatterns.{bit_has, bit_set}

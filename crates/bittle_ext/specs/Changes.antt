@@ -1,7 +1,8 @@
 -- Sets changed at one index, at each index of a span, or at each member that fails a test.
 use Rattle.std.specs.Prelude.{◌≡◌, ℕ, Bool, cond, ◌&&◌, not}
 use Rattle.std.specs.List.Retain.{IsFiltered}
-use Rattle.bittle.specs.PlainSet.{PlainSet, ascending, contains, with_index, without_index, with_span_changed}
+use Rattle.bittle.specs.PlainSet.{PlainSet, ascending, contains, with_index, without_index}
+use Rattle.bittle.specs.PlainSet.{with_span_changed}
 
 -- the set with the index added if the value is true, else removed
 abbrev pub with_index_assigned : PlainSet → ℕ → Bool → PlainSet

@@ -1,5 +1,6 @@
 -- Which members a set has between two numbers.
-use Rattle.std.specs.Prelude.{◌≡◌, ℕ, ◌-◌, ◌<◌, ◌≤◌, Bool, ◌&&◌, true, false, List, length, min, slice_index}
+use Rattle.std.specs.Prelude.{◌≡◌, ℕ, ◌-◌, ◌<◌, ◌≤◌, Bool, ◌&&◌, true, false, List, length, min}
+use Rattle.std.specs.Prelude.{slice_index}
 use Rattle.bittle.specs.PlainSet.{PlainSet, ascending, is_in_span, members_below}
 use Rattle.bittle.specs.Walk.{ones_or_zeros}
 

@@ -1,5 +1,6 @@
 -- Sets whose members are all moved up or down.
-use Rattle.std.specs.Prelude.{◌≡◌, ℕ, ◌+◌, ◌-◌, ◌*◌, ◌%◌, ◌<◌, ◌≤◌, ◌⊎◌, Bool, cond, ◌==◌, ◌&&◌, nat_lt, nat_le}
+use Rattle.std.specs.Prelude.{◌≡◌, ℕ, ◌+◌, ◌-◌, ◌*◌, ◌%◌, ◌<◌, ◌≤◌, ◌⊎◌, Bool, cond, ◌==◌, ◌&&◌}
+use Rattle.std.specs.Prelude.{nat_lt, nat_le}
 use Rattle.bittle.specs.PlainSet.{PlainSet, contains, is_in_span}
 
 -- whether k is below the capacity, and k + by, which wraps at the capacity, is a member

@@ -307,7 +307,8 @@ pub trait BitsExt: Bits + Sized {
             result ≡ members_below others to - members_below others from }
         ensures at_most { result ≤ to - from }
         ensures at_most_capacity { result ≤ (Self.big self.now).capacity }
-        ensures at_most_all { let others = complement (set_in Self.Shape Self.Order.Endian self.now) in
+        ensures at_most_all { let others =
+            complement (set_in Self.Shape Self.Order.Endian self.now) in
             result ≤ size others }
     {
         self.count_zeros_in_span(from..to)

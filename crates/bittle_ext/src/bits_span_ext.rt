@@ -70,7 +70,8 @@ pub trait BitsSpanExt: Bits + Sized {
             let end = end_index (R.end_bound range) (Self.big self.now).capacity in
             result ≤ end - start }
         ensures at_most_capacity { result ≤ (Self.big self.now).capacity }
-        ensures at_most_all { let others = complement (set_in Self.Shape Self.Order.Endian self.now) in
+        ensures at_most_all { let others =
+            complement (set_in Self.Shape Self.Order.Endian self.now) in
             result ≤ size others }
     {
         let (start, end) = part_of::<Self, Self::Order, R>(self, &range);

@@ -47,7 +47,8 @@ pub trait BitsSpanMutExt: BitsMut + Sized {
             let start = start_index (R.start_bound range) in
             let end = end_index (R.end_bound range) (Self.big self.old).capacity in
             size (set_in Self.Shape Self.Order.Endian self.new)
-            ≡ size before - (members_below before end - members_below before start) + (end - start) }
+            ≡ size before - (members_below before end - members_below before start)
+            + (end - start) }
         ensures all { HasAllIn (set_in Self.Shape Self.Order.Endian self.new)
             (start_index (R.start_bound range))
             (end_index (R.end_bound range) (Self.big self.old).capacity) }

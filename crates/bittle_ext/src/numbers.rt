@@ -1,6 +1,7 @@
 //! Words as numbers whose bit `i` is the bit at index `i`, in either order.
 
-ghost use Rattle.std.specs.Prelude.{◌≡◌, ℕ, ◌+◌, ◌-◌, ◌*◌, ◌/◌, ◌%◌, ◌^◌, ◌<◌, ◌≤◌, bit_and, bit_or};
+ghost use Rattle.std.specs.Prelude.{◌≡◌, ℕ, ◌+◌, ◌-◌, ◌*◌, ◌/◌, ◌%◌, ◌^◌, ◌<◌, ◌≤◌, bit_and};
+ghost use Rattle.std.specs.Prelude.{bit_or};
 ghost use Rattle.std.specs.Int.{bit_at};
 ghost use Rattle.bittle.specs.BitPatterns.{bit_set};
 ghost use Rattle.bittle.specs.Orders.{read_in};
@@ -16,7 +17,8 @@ use bittle_bits::extension::{Conjunction, Operation, SymmetricDifference, Word};
 #[inline]
 fn swapped(bits: u128, by: u32, mask: u128) -> u128
     requires { by < 128 }
-    ensures { result ≡ bit_or (bit_and bits mask * 2 ^ by % 2 ^ 128) (bit_and (bits / 2 ^ by) mask) }
+    ensures { result ≡ bit_or (bit_and bits mask * 2 ^ by % 2 ^ 128)
+        (bit_and (bits / 2 ^ by) mask) }
 {
     (bits & mask) << by | bits >> by & mask
 }

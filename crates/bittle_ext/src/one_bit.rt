@@ -38,9 +38,9 @@ pub fn combine_within<B: BitsMut, E: Endian, O: RangeOperation>(set: &mut B, ind
     !word.and(mask).is_zero()
 }
 
-/// Flips the least bit of the kind `K`, which is the bit at `first`: it is cleared if `K` is `Ones`,
-/// and set if `K` is `Zeros`. In big-endian order no mask is made from the index: there the bit has
-/// the least weight of the bits of its kind in its word.
+/// Flips the least bit of the kind `K`, which is the bit at `first`: it is cleared if `K` is
+/// `Ones`, and set if `K` is `Zeros`. In big-endian order no mask is made from the index: there the
+/// bit has the least weight of the bits of its kind in its word.
 #[inline]
 pub fn flip_first<B: BitsMut, E: Endian, K: Kind>(set: &mut B, first: u32)
     requires fits { ShapeFits B.Shape set.old }

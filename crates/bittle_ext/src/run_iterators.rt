@@ -131,8 +131,8 @@ fn first_run<B: ReadWords, E: Endian, K: Kind>(
     }
 }
 
-/// Returns whether the bit at the index `last` is of the kind `K`. If `is_closed` is `true`, returns
-/// `false`.
+/// Returns whether the bit at the index `last` is of the kind `K`. If `is_closed` is `true`,
+/// returns `false`.
 #[inline]
 fn is_open<B: Bits, E: Endian, K: Kind>(bits: &B, last: u32, is_closed: bool) -> bool
     requires fits { ShapeFits B.Shape bits.now }

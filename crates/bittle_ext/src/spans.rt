@@ -42,7 +42,8 @@ pub(crate) fn part_of<B: Bits, E: Endian, R: RangeBounds<u32>>(set: &B, range: &
         IsPartBelow capacity (start_index (R.start_bound range.now))
         (end_index (R.end_bound range.now) capacity) result.0 result.1 }
     ensures ends { EndsAt (set_in B.Shape E.Endian set.now) (B.big set.now).capacity }
-    ensures others { EndsAt (complement (set_in B.Shape E.Endian set.now)) (B.big set.now).capacity }
+    ensures others { EndsAt (complement (set_in B.Shape E.Endian set.now))
+        (B.big set.now).capacity }
 {
     let capacity = capacity_of::<B, E>(set);
     let (from, to) = ends_of(range, capacity);

@@ -16,7 +16,8 @@ use bittle_ext::prelude::*;
 pub struct Blocks {
     used: [u64; 16],
     bad: [u64; 16],
-    pub ghost kept: { includes (row_set 16 64 (bit_set 64) used) (row_set 16 64 (bit_set 64) bad) ≡ true },
+    pub ghost kept: { includes (row_set 16 64 (bit_set 64) used)
+        (row_set 16 64 (bit_set 64) bad) ≡ true },
 }
 
 impl Blocks {

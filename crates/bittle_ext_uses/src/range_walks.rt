@@ -1,7 +1,8 @@
 //! Iterators over a range of a set.
 
 ghost use Rattle.std.specs.Iterator.{YieldsLast};
-ghost use Rattle.std.specs.Prelude.{◌≡◌, ◌-◌, ◌≤◌, ℕ, List, [], ◌∷◌, ◌++◌, Option, None, MatchOption};
+ghost use Rattle.std.specs.Prelude.{◌≡◌, ◌-◌, ◌≤◌, ℕ, List, [], ◌∷◌, ◌++◌, Option, None};
+ghost use Rattle.std.specs.Prelude.{MatchOption};
 ghost use Rattle.std.specs.Prelude.{option_map, slice_index, unwrap_or};
 ghost use Rattle.std.specs.List.{fold};
 ghost use Rattle.bittle.specs.BitPatterns.{bit_set};

@@ -16,7 +16,8 @@ use bittle_ext::{BitsExt, BitsMutExt};
 pub struct Seats {
     taken: [u64; 4],
     reserved: [u64; 4],
-    pub ghost kept: { includes (row_set 4 64 (bit_set 64) taken) (row_set 4 64 (bit_set 64) reserved) ≡ true },
+    pub ghost kept: { includes (row_set 4 64 (bit_set 64) taken)
+        (row_set 4 64 (bit_set 64) reserved) ≡ true },
 }
 
 impl Seats {

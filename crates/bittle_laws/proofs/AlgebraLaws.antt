@@ -5,7 +5,8 @@ use Rattle.std.proofs.Math.Bool.{and_self}
 use Rattle.std.proofs.Math.Path.{fun_ext}
 use Rattle.std.proofs.lemmas.Bool.{cases_lt, lt-ltb, le-ltb}
 use Rattle.bittle.specs.PlainSet.{PlainSet}
-use Rattle.bittle_laws.specs.AlgebraLaws.{Commutes, Associates, IsIdempotent, DistributesOver, UndoesItself}
+use Rattle.bittle_laws.specs.AlgebraLaws.{Commutes, Associates, IsIdempotent, DistributesOver}
+use Rattle.bittle_laws.specs.AlgebraLaws.{UndoesItself}
 use Rattle.bittle.specs.SetOperations.{combination_has, combination_of, just_one}
 use Rattle.bittle_bits.proofs.PlainSets.{plain_set}
 

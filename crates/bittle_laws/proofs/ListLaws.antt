@@ -1,5 +1,6 @@
 -- The list of a set's members is increasing, and contains exactly the members.
-use Rattle.std.proofs.Common.{ℕ, zero, suc, ◌<◌, ◌≤◌, Bool, true, false, cond, ◌∷◌, length, get_or, arith}
+use Rattle.std.proofs.Common.{ℕ, zero, suc, ◌<◌, ◌≤◌, Bool, true, false, cond, ◌∷◌, length, get_or}
+use Rattle.std.proofs.Common.{arith}
 use Rattle.bittle.specs.PlainSet.{ascending_from}
 use Rattle.bittle.proofs.CallerLists.{ascending_below, ascending_has}
 use Rattle.bittle_laws.specs.ListLaws.{ListsIncrease}

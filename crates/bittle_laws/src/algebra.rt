@@ -4,7 +4,8 @@
 //! contracts of calls such as `union` state results as plain sets, so the laws hold for the values
 //! of an owned type too.
 
-ghost use Rattle.bittle_laws.specs.AlgebraLaws.{Commutes, Associates, IsIdempotent, DistributesOver, UndoesItself};
+ghost use Rattle.bittle_laws.specs.AlgebraLaws.{Commutes, Associates, IsIdempotent};
+ghost use Rattle.bittle_laws.specs.AlgebraLaws.{DistributesOver, UndoesItself};
 ghost use Rattle.bittle.specs.SetOperations.{union_of, conjunction_of, symmetric_difference_of};
 
 /// States that it does not matter which of two sets comes first in their union or conjunction.

@@ -1,7 +1,9 @@
 //! Laws of how two sets of any shapes are ordered, tested for equality and hashed. Each function
 //! does nothing, and its contract is the law.
 
-ghost use Rattle.bittle_laws.specs.ComparisonLaws.{OrderIsTotal, OrderAgreesWithEquality, OrderReverses, EqualityIsSymmetric, EqualSetsFeedAlike};
+ghost use Rattle.bittle_laws.specs.ComparisonLaws.{OrderIsTotal, OrderAgreesWithEquality};
+ghost use Rattle.bittle_laws.specs.ComparisonLaws.{OrderReverses, EqualityIsSymmetric};
+ghost use Rattle.bittle_laws.specs.ComparisonLaws.{EqualSetsFeedAlike};
 
 /// States that the order of sets is total.
 pub fn order_is_total()

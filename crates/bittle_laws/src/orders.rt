@@ -2,7 +2,10 @@
 //! contract is the law.
 
 ghost use Rattle.std.specs.Prelude.{◌≡◌, true, false};
-ghost use Rattle.bittle_laws.specs.OrderLaws.{PlacesAreInTheWord, PlacesAreDistinct, PlacesMirror, MembersMirror, MirroringTwiceIsNothing, MirroringStaysBelow, MirroringReachesAll, TestingWraps};
+ghost use Rattle.bittle_laws.specs.OrderLaws.{PlacesAreInTheWord, PlacesAreDistinct, PlacesMirror};
+ghost use Rattle.bittle_laws.specs.OrderLaws.{MembersMirror, MirroringTwiceIsNothing};
+ghost use Rattle.bittle_laws.specs.OrderLaws.{MirroringStaysBelow, MirroringReachesAll};
+ghost use Rattle.bittle_laws.specs.OrderLaws.{TestingWraps};
 ghost use Rattle.bittle.specs.Values.{set_in};
 
 use bittle::{BigEndian, Bits, DefaultEndian, Endian, LittleEndian};

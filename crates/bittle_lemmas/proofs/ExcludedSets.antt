@@ -1,8 +1,11 @@
 -- Two sets without a common member, such as mines and open squares, after calls that change them.
-use Rattle.std.proofs.Common.{◌≡◌, ℕ, ◌%◌, ◌<◌, Bool, true, false, not, ◌&&◌, nat_lt, inl, inr, sym, ap, ◌∙◌, arith}
-use Rattle.std.proofs.lemmas.Bool.{and_parts, and_right, cases_Bool, cases_eq, ltb-true, not-true, true≢false}
+use Rattle.std.proofs.Common.{◌≡◌, ℕ, ◌%◌, ◌<◌, Bool, true, false, not, ◌&&◌, nat_lt, inl, inr, sym}
+use Rattle.std.proofs.Common.{ap, ◌∙◌, arith}
+use Rattle.std.proofs.lemmas.Bool.{and_parts, and_right, cases_Bool, cases_eq, ltb-true, not-true}
+use Rattle.std.proofs.lemmas.Bool.{true≢false}
 use Rattle.std.proofs.lemmas.Nat.{mod_below}
-use Rattle.bittle.specs.PlainSet.{PlainSet, contains, empty_set, has_without, with_index, without_index}
+use Rattle.bittle.specs.PlainSet.{PlainSet, contains, empty_set, has_without, with_index}
+use Rattle.bittle.specs.PlainSet.{without_index}
 use Rattle.bittle.proofs.CallerSets.{contains_within}
 use Rattle.bittle_lemmas.specs.ExcludedSets.{excludes}
 use Rattle.bittle_ext.proofs.CallerMembers.{has_other_after_set}

@@ -1,5 +1,6 @@
 -- Facts about the index that a search for an unset bit found, in a set or in a union of two sets.
-use Rattle.std.proofs.Common.{◌≡◌, ℕ, ◌+◌, ◌<◌, ◌≤◌, Bool, true, false, not, ◌||◌, nat_lt, Option, Some, inl, inr, refl, sym, ap, ◌∙◌, subst, arith}
+use Rattle.std.proofs.Common.{◌≡◌, ℕ, ◌+◌, ◌<◌, ◌≤◌, Bool, true, false, not, ◌||◌, nat_lt, Option}
+use Rattle.std.proofs.Common.{Some, inl, inr, refl, sym, ap, ◌∙◌, subst, arith}
 use Rattle.std.proofs.lemmas.Bool.{and_parts, cases_lt, ltb-true, not-false, not-true, true≢false}
 use Rattle.bittle.specs.PlainSet.{PlainSet, complement, contains, is_in_span, lacks, size}
 use Rattle.bittle.specs.Searches.{IsFirstIn, NoneIn}

@@ -1,7 +1,9 @@
 -- Facts about a set and its spans, after a caller set a span or an index.
-use Rattle.std.proofs.Common.{◌≡◌, ℕ, ◌+◌, ◌-◌, ◌<◌, ◌≤◌, ◌⊎◌, Bool, true, false, cond, inl, inr, refl, sym, ap, ◌∙◌, arith}
+use Rattle.std.proofs.Common.{◌≡◌, ℕ, ◌+◌, ◌-◌, ◌<◌, ◌≤◌, ◌⊎◌, Bool, true, false, cond, inl, inr}
+use Rattle.std.proofs.Common.{refl, sym, ap, ◌∙◌, arith}
 use Rattle.std.proofs.lemmas.Bool.{cases_lt}
-use Rattle.bittle.specs.PlainSet.{PlainSet, contains, has_changed, is_in_span, size, with_index, with_span}
+use Rattle.bittle.specs.PlainSet.{PlainSet, contains, has_changed, is_in_span, size, with_index}
+use Rattle.bittle.specs.PlainSet.{with_span}
 use Rattle.bittle.specs.Searches.{NoneIn}
 use Rattle.bittle.proofs.CallerChanges.{size_with_span}
 use Rattle.bittle.proofs.CallerSets.{contains_within}

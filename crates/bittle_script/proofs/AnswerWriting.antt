@@ -1,11 +1,13 @@
 -- How many of the answers an output got: all, or a beginning of them.
-use Rattle.std.proofs.Common.{◌≡◌, ℕ, List, ◌∷◌, ◌++◌, length, sym, ap, ◌∙◌, false, refl, true≢false, Result, Ok, Err, Some, None}
+use Rattle.std.proofs.Common.{◌≡◌, ℕ, List, ◌∷◌, ◌++◌, length, sym, ap, ◌∙◌, false, refl}
+use Rattle.std.proofs.Common.{true≢false, Result, Ok, Err, Some, None}
 use Rattle.std.specs.Prelude.{Option, IsErr, ◌==◌, if◌then◌else◌}
 use Rattle.bittle.specs.PlainSet.{PlainSet}
 use Rattle.bittle_script.specs.declared.answering.Outcome.{Outcome}
 use Rattle.bittle_script.specs.declared.command.Command.{Command}
 use Rattle.bittle_script.specs.declared.writing.Output.{Output}
-use Rattle.bittle_script.specs.Answers.{Answers, line_answers, command_answers, refusal_at, prepend, command_text, after_command}
+use Rattle.bittle_script.specs.Answers.{Answers, line_answers, command_answers, refusal_at, prepend}
+use Rattle.bittle_script.specs.Answers.{command_text, after_command}
 use Rattle.bittle_script.specs.Beginnings.{AppendsBeginning, HasBegun}
 use Rattle.bittle_script.specs.Commands.{command_of}
 use Rattle.bittle_script.specs.GivenAnswers.{IsGiven}
@@ -36,7 +38,8 @@ under_way-begins contents a all left e = record {
 
 -- once a reply is put, the answers after it are left
 pub under_way-after : {W : Type 0} (contents : W → Option (List ℕ)) (a b c : Output W)
-    (all left rest : Answers) (reply : List ℕ) → IsUnderWay contents a b all left → left ≡ prepend reply rest →
+    (all left rest : Answers) (reply : List ℕ) → IsUnderWay contents a b all left → left
+    ≡ prepend reply rest →
     HasBegun (contents b.writer.now) (contents c.writer.now) (b.waiting ++ reply)
     c.waiting → IsUnderWay contents a c all rest
 under_way-after contents a b c all left rest reply h is k = record {
@@ -60,7 +63,8 @@ pub IsGiven-failed_at : {W E : Type 0} (contents : W → Option (List ℕ)) (a b
     (contents b.writer.now) (a.waiting ++ reply) → IsGiven contents a b r left
 IsGiven-failed_at contents a b r left rest reply failed is h = rw is
     (IsGiven-failed contents a b r (prepend reply rest) failed
-    (puts-failed_before _ _ r a.waiting (reply ++ rest.text) reply rest.text b.waiting refl failed h))
+    (puts-failed_before _ _ r a.waiting (reply ++ rest.text) reply rest.text b.waiting
+    refl failed h))
 
 -- a line that is a command is answered, and then the lines after it, from the set that the command
 -- leaves

@@ -1,5 +1,7 @@
 -- The first line of a text.
-use Rattle.std.proofs.Common.{◌≡◌, ℕ, suc, ◌+◌, ◌<◌, ◌≤◌, Bool, List, [], ◌∷◌, length, take, drop, refl, arith, true, false, Some, None, ap, ◌∙◌, sym, map, cond, take_all, drop_of_length-le}
+use Rattle.std.proofs.Common.{◌≡◌, ℕ, suc, ◌+◌, ◌<◌, ◌≤◌, Bool, List, [], ◌∷◌, length, take, drop}
+use Rattle.std.proofs.Common.{refl, arith, true, false, Some, None, ap, ◌∙◌, sym, map, cond}
+use Rattle.std.proofs.Common.{take_all, drop_of_length-le}
 use borrow.Author.Tests.{ltb-false}
 use Rattle.std.specs.Prelude.{◌==◌, not, position, if◌then◌else◌, nat_lt}
 use Rattle.std.specs.List.{position_or_len}

@@ -1,6 +1,7 @@
 -- Parts of bytes that are put into an output one after the other. The names `p`, `q` and `s` stand
 -- for the bytes that wait in the output.
-use Rattle.std.proofs.Common.{◌≡◌, ℕ, List, ◌++◌, sym, ap, ◌∙◌, append_assoc, subst, Result, Ok, Err}
+use Rattle.std.proofs.Common.{◌≡◌, ℕ, List, ◌++◌, sym, ap, ◌∙◌, append_assoc, subst, Result, Ok}
+use Rattle.std.proofs.Common.{Err}
 use Rattle.std.specs.Prelude.{Option, IsErr}
 use Rattle.std.proofs.lemmas.Result.{MatchResult-from_err}
 use Rattle.bittle_script.specs.Beginnings.{AppendsBeginning, HasBegun, Begins}

@@ -1,8 +1,10 @@
 -- The answers to a script, line by line. The commands work on a plain set of numbers.
-use Rattle.std.specs.Prelude.{ℕ, Bool, List, [], ◌∷◌, ◌++◌, Option, None, Some, length, drop, codes, ◌==◌, if◌then◌else◌}
+use Rattle.std.specs.Prelude.{ℕ, Bool, List, [], ◌∷◌, ◌++◌, Option, None, Some, length, drop, codes}
+use Rattle.std.specs.Prelude.{◌==◌, if◌then◌else◌}
 use Rattle.std.specs.List.{enumerate_from, join_by}
 use Rattle.std.specs.Fmt.{decimal}
-use Rattle.bittle.specs.PlainSet.{PlainSet, empty_set, contains, with_index, without_index, size, ascending}
+use Rattle.bittle.specs.PlainSet.{PlainSet, empty_set, contains, with_index, without_index, size}
+use Rattle.bittle.specs.PlainSet.{ascending}
 use Rattle.bittle_script.specs.declared.command.Command.{Command}
 use Rattle.bittle_script.specs.declared.command.Command.TheVariants.{Set, Clear, Test, Count, Ones}
 use Rattle.bittle_script.specs.declared.header.Header.{Header}

@@ -1,5 +1,6 @@
 -- Numbers in decimal digits.
-use Rattle.std.specs.Prelude.{ℕ, List, Bool, Option, Some, None, ◌&&◌, nat_lt, length, if◌then◌else◌}
+use Rattle.std.specs.Prelude.{ℕ, List, Bool, Option, Some, None, ◌&&◌, nat_lt, length}
+use Rattle.std.specs.Prelude.{if◌then◌else◌}
 use Rattle.std.specs.Char.{is_ascii_digit}
 use Rattle.std.specs.List.{list_all}
 use Rattle.std.specs.Str.Parse.{digits_value}

@@ -1,7 +1,9 @@
 //! The answers to a script.
 ghost use Rattle.std.specs.Prelude.{◌≡◌, ◌≤◌, length, drop, OnSome, IsTrue};
 ghost use Rattle.bittle.specs.PlainSet.{empty_set};
-ghost use Rattle.bittle_script.specs.Answers.{line_answers, script_answers, header_in, line_of_bit, line_of_number, line_of_members, command_text, after_command, refusal_at};
+ghost use Rattle.bittle_script.specs.Answers.{line_answers, script_answers, header_in, line_of_bit};
+ghost use Rattle.bittle_script.specs.Answers.{line_of_number, line_of_members, command_text};
+ghost use Rattle.bittle_script.specs.Answers.{after_command, refusal_at};
 ghost use Rattle.bittle_script.specs.GivenAnswers.{IsGiven};
 ghost use Rattle.bittle_script.specs.Headers.{capacity_of};
 ghost use Rattle.bittle_script.specs.Lines.{lines_left};

@@ -1,14 +1,19 @@
 -- What a summary tells of the words of a set, and what keeps it right.
-use Rattle.std.proofs.Common.{◌≡◌, ◌≢◌, ℕ, suc, ◌+◌, ◌-◌, ◌*◌, ◌/◌, ◌%◌, ◌^◌, ◌<◌, ◌≤◌, Bool, true, false, not, cond, ◌&&◌, ◌==◌, nat_lt, nat_le, inl, inr, Option, Some, None, is_some, IsTrue, refl, sym, ap, ◌∙◌, arith}
+use Rattle.std.proofs.Common.{◌≡◌, ◌≢◌, ℕ, suc, ◌+◌, ◌-◌, ◌*◌, ◌/◌, ◌%◌, ◌^◌, ◌<◌, ◌≤◌, Bool, true}
+use Rattle.std.proofs.Common.{false, not, cond, ◌&&◌, ◌==◌, nat_lt, nat_le, inl, inr, Option, Some}
+use Rattle.std.proofs.Common.{None, is_some, IsTrue, refl, sym, ap, ◌∙◌, arith}
 use Rattle.std.proofs.Math.Path.{fun_ext}
 use Rattle.std.proofs.Props.{props}
-use Rattle.std.proofs.Math.Nat.{pow-suc, div-add-mod', div-mul-le_self, le_of_mul-le-mul_right, lt_of_mul-lt-mul_right, mod-eq_of_lt, mul-le-mul_right}
+use Rattle.std.proofs.Math.Nat.{pow-suc, div-add-mod', div-mul-le_self, le_of_mul-le-mul_right}
+use Rattle.std.proofs.Math.Nat.{lt_of_mul-lt-mul_right, mod-eq_of_lt, mul-le-mul_right}
 use Rattle.std.proofs.lemmas.Nat.{div-mul-add, div_below, mod_below}
-use Rattle.std.proofs.lemmas.Bool.{and_parts, cases_eq, cases_lt, eq-eqb, eqb-true, ne_eqb, lt-ltb, le-ltb, lt-leb, leb-true, true≢false, not-false, not-true}
+use Rattle.std.proofs.lemmas.Bool.{and_parts, cases_eq, cases_lt, eq-eqb, eqb-true, ne_eqb, lt-ltb}
+use Rattle.std.proofs.lemmas.Bool.{le-ltb, lt-leb, leb-true, true≢false, not-false, not-true}
 use Rattle.bittle_bits.specs.Ends.{IsEndIn}
 use Rattle.bittle.specs.BitPatterns.{bit_set}
 use Rattle.bittle.specs.Orders.{place, read_in}
-use Rattle.bittle.specs.PlainSet.{PlainSet, count_below, empty_set, full_set, size, complement, has_changed, lacks, is_in_span, with_span_changed}
+use Rattle.bittle.specs.PlainSet.{PlainSet, count_below, empty_set, full_set, size, complement}
+use Rattle.bittle.specs.PlainSet.{has_changed, lacks, is_in_span, with_span_changed}
 use Rattle.bittle.specs.Rows.{with_bit}
 use Rattle.bittle.specs.Searches.{NoneIn, PassesOver, TellsGroups}
 use Rattle.bittle.specs.Walk.{ones_or_zeros}
@@ -19,7 +24,8 @@ use Rattle.bittle_bits.proofs.PlaceLemmas.{place_part, place_in_word, place-plac
 use Rattle.bittle_bits.proofs.PlainSets.{plain_set, has_with-in, has_without-in}
 use Rattle.bittle_bits.proofs.Sizes.{size-complement}
 use Rattle.bittle_bits.proofs.Words.{word_has-at, word_ends}
-use Rattle.bittle_tiers.specs.Tiers.{uniform_summary, some_in_word, StopsAtBit, Summarizes, SummarizesOutside, can_summarize}
+use Rattle.bittle_tiers.specs.Tiers.{uniform_summary, some_in_word, StopsAtBit, Summarizes}
+use Rattle.bittle_tiers.specs.Tiers.{SummarizesOutside, can_summarize}
 
 -- `can_summarize` implies that the summary has a bit for each word of the map
 pub summary_reaches : (a b : Bool) (c d w : ℕ) → IsTrue (can_summarize a b c d w) → c ≤ d * w

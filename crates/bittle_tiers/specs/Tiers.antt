@@ -1,6 +1,7 @@
 -- Number k is a member of a summary if word k of its map, which is a set too, has a bit of the
 -- summary's kind: a set bit if `ones` is true, else an unset bit. The words have w bits.
-use Rattle.std.specs.Prelude.{◌≡◌, ℕ, ◌*◌, ◌-◌, ◌<◌, ◌≤◌, Bool, true, false, not, ◌&&◌, ◌==◌, nat_le}
+use Rattle.std.specs.Prelude.{◌≡◌, ℕ, ◌*◌, ◌-◌, ◌<◌, ◌≤◌, Bool, true, false, not, ◌&&◌, ◌==◌}
+use Rattle.std.specs.Prelude.{nat_le}
 use Rattle.bittle.specs.PlainSet.{PlainSet, empty_set, full_set, size}
 use Rattle.bittle.specs.Walk.{ones_or_zeros}
 use Rattle.bittle.specs.Words.{word_of}

@@ -39,8 +39,8 @@ use std::marker::PhantomData;
 /// The summary needs one bit for each word of the map. If it has too few bits, the type does not
 /// fit: `bits()` returns `u32::MAX`, and no call makes a value.
 ///
-/// The types of the usual sizes, `Tiered4K`, `Tiered64K` and `Tiered256K`, also have `from(map)` and
-/// `default()`.
+/// The types of the usual sizes, `Tiered4K`, `Tiered64K` and `Tiered256K`, also have `from(map)`
+/// and `default()`.
 ///
 /// ```
 /// let mut taken = Tiered::<[u64; 64], u64, Zeros>::ones();
@@ -155,8 +155,8 @@ impl<B: Shape + Eq, S: Shape, K: Kind> Eq for Tiered<B, S, K> {
     ghost laws = { on_equiv (λ t. t.map) B.Eq.laws };
 }
 
-/// Prints the indexes of the set bits in the map's own bit order, in increasing order between braces,
-/// as `{1, 14}`. Format flags have no effect.
+/// Prints the indexes of the set bits in the map's own bit order, in increasing order between
+/// braces, as `{1, 14}`. Format flags have no effect.
 impl<B: Bits + FixedCapacity, S: ReadWords + FixedCapacity, K: Kind> fmt::Debug
     for Tiered<B, S, K> {
     ghost debug_output = { λ t. Some (set_text (set_in B.Shape B.Order.Endian t.map)) };

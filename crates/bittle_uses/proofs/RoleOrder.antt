@@ -1,5 +1,6 @@
 -- What the order of two roles says of what they grant.
-use Rattle.std.proofs.Common.{◌≡◌, ℕ, ◌≤◌, true, false, IsTrue, ◌↔◌, List, Result, Ok, Err, MatchOption, inl, inr, refl, sym, ap, ◌∙◌, arith}
+use Rattle.std.proofs.Common.{◌≡◌, ℕ, ◌≤◌, true, false, IsTrue, ◌↔◌, List, Result, Ok, Err}
+use Rattle.std.proofs.Common.{MatchOption, inl, inr, refl, sym, ap, ◌∙◌, arith}
 use Rattle.std.proofs.lemmas.Bool.{le-ltb, cases_lt, true≢false}
 use Rattle.std.proofs.lemmas.List.Sorted.{searchable_from_sorted}
 use Rattle.std.specs.Cmp.Lexicographic.{nat_list_cmp_total}

@@ -11,7 +11,8 @@ use std::alloc::{AllocError, Global};
 
 /// Returns the board at the start: the first two rows and the last two are taken.
 pub fn start() -> u64
-    ensures { bit_set 64 result ≡ with_wrapped_range (with_wrapped_range (empty_set 64) 0 16) 48 64 }
+    ensures { bit_set 64 result ≡ with_wrapped_range
+        (with_wrapped_range (empty_set 64) 0 16) 48 64 }
 {
     set![0..16, 48..]
 }

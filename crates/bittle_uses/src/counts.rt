@@ -1,7 +1,8 @@
 //! Counts of set bits or unset bits: some are added or subtracted, and some are cast to narrower
 //! types. Also positions of items in an iterator.
 
-ghost use Rattle.std.specs.Prelude.{◌≡◌, ◌==◌, ◌+◌, ◌-◌, true, length, position, Some, map, slice_index};
+ghost use Rattle.std.specs.Prelude.{◌≡◌, ◌==◌, ◌+◌, ◌-◌, true, length, position, Some, map};
+ghost use Rattle.std.specs.Prelude.{slice_index};
 ghost use Rattle.std.specs.List.{last_or, enumerate_from};
 ghost use Rattle.std.specs.Int.Bits.{bit_xor};
 ghost use Rattle.bittle.specs.BitPatterns.{bit_set};

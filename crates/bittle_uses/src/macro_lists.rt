@@ -9,7 +9,8 @@
 //! in the first word, and some range begins past the first word.
 
 ghost use Rattle.std.specs.Prelude.{◌≡◌, IsTrue};
-ghost use Rattle.bittle_uses.specs.MacroLists.{listed_set, listed_open_set, listed_whole_set, listed_ranges_set};
+ghost use Rattle.bittle_uses.specs.MacroLists.{listed_set, listed_open_set, listed_whole_set};
+ghost use Rattle.bittle_uses.specs.MacroLists.{listed_ranges_set};
 ghost use Rattle.bittle.specs.Values.{set_in};
 
 use bittle::{BigEndian, BitsOwned, Endian, LittleEndian};

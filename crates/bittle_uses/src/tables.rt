@@ -1,10 +1,12 @@
 //! Rows with an entry for each index of a set. The functions use the entries at the set bits, or at
 //! the unset bits. A function that finds no entry returns 0.
 
-ghost use Rattle.std.specs.Prelude.{◌≡◌, ◌≤◌, Option, ℕ, length, option_map, slice_index, unwrap_or};
+ghost use Rattle.std.specs.Prelude.{◌≡◌, ◌≤◌, Option, ℕ, length, option_map, slice_index};
+ghost use Rattle.std.specs.Prelude.{unwrap_or};
 ghost use Rattle.std.specs.List.{reduce, last_or, filter, fold, slice_index_or};
 ghost use Rattle.std.specs.Int.Bits.{bit_xor};
-ghost use Rattle.std.specs.Prelude.{max, slice_get, map, Some, true, false, take, drop, not, ◌==◌, ◌<◌, ◌||◌, ◌/◌, ◌%◌, []};
+ghost use Rattle.std.specs.Prelude.{max, slice_get, map, Some, true, false, take, drop, not, ◌==◌};
+ghost use Rattle.std.specs.Prelude.{◌<◌, ◌||◌, ◌/◌, ◌%◌, []};
 ghost use Rattle.bittle.specs.Orders.{read_in};
 ghost use Rattle.bittle.specs.Rows.{row_set};
 ghost use Rattle.bittle.specs.PlainSet.{ascending, complement};

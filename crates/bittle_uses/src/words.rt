@@ -1,7 +1,8 @@
 //! Iterators over one word. Some have adapters, and one is stepped from the back.
 
 ghost use Rattle.std.specs.Int.{w8, cast_unsigned};
-ghost use Rattle.std.specs.Prelude.{◌≡◌, ◌/◌, length, map, count_by, nat_lt, true, false, MatchOption, [], ◌∷◌, ◌++◌, ℕ, List};
+ghost use Rattle.std.specs.Prelude.{◌≡◌, ◌/◌, length, map, count_by, nat_lt, true, false};
+ghost use Rattle.std.specs.Prelude.{MatchOption, [], ◌∷◌, ◌++◌, ℕ, List};
 ghost use Rattle.bittle.specs.BitPatterns.{bit_set};
 ghost use Rattle.bittle.specs.Orders.{read_in};
 ghost use Rattle.bittle.specs.PlainSet.{ascending, complement};

@@ -1,5 +1,6 @@
 -- What a stone that is put on a free square makes of the two sides.
-use Rattle.std.proofs.Common.{◌≡◌, ℕ, ◌+◌, ◌%◌, ◌<◌, Bool, true, false, not, cond, ◌&&◌, ◌||◌, nat_lt, inl, inr, refl, sym, ap, ◌∙◌, arith}
+use Rattle.std.proofs.Common.{◌≡◌, ℕ, ◌+◌, ◌%◌, ◌<◌, Bool, true, false, not, cond, ◌&&◌, ◌||◌}
+use Rattle.std.proofs.Common.{nat_lt, inl, inr, refl, sym, ap, ◌∙◌, arith}
 use Rattle.std.proofs.lemmas.Bool.{cases_eq, lt-ltb, ne_eqb, or_parts}
 use Rattle.bittle.specs.PlainSet.{PlainSet, contains, with_index, has_with, size}
 use Rattle.bittle.proofs.CallerChanges.{size_inserted}
@@ -13,7 +14,8 @@ and_turned false false e = refl
 
 -- s is the side that moves, t is the other side, and u is s with its new stone
 module _ (s t u : PlainSet) (square : ℕ) (some : 0 < s.capacity) (same : t.capacity ≡ s.capacity)
-    (free : (contains s square || contains t square) ≡ false) (after : u ≡ with_index s square) where
+    (free : (contains s square || contains t square) ≡ false)
+    (after : u ≡ with_index s square) where
   pub one_stone_more : stones t u ≡ stones s t + 1
   one_stone_more =
       let none = (or_parts (contains s square) (contains t square) free).0 in

@@ -29,7 +29,8 @@ impl Pool {
     /// Takes the first run of `pages` free pages, and returns its first page. If there is no such
     /// run, nothing changes, and it returns `None`.
     fn allocate(&mut self, pages: u32) -> Option<u32>
-        ensures free { IsFirstRun (complement (row_set 2 64 (bit_set 64) self.old.taken)) 0 pages result }
+        ensures free { IsFirstRun (complement (row_set 2 64 (bit_set 64) self.old.taken)) 0
+            pages result }
         ensures taken { MatchOption result (self.new.taken ≡ self.old.taken) (λ first.
             row_set 2 64 (bit_set 64) self.new.taken
             ≡ with_span (row_set 2 64 (bit_set 64) self.old.taken) first (first + pages)) }
@@ -45,7 +46,8 @@ impl Pool {
         ensures { let before = row_set 2 64 (bit_set 64) self.old.taken in
             MatchBool result
             ((first + pages ≤ 128) × HasAllIn before first (first + pages)
-            × (row_set 2 64 (bit_set 64) self.new.taken ≡ without_span before first (first + pages)))
+            × (row_set 2 64 (bit_set 64) self.new.taken
+            ≡ without_span before first (first + pages)))
             ((self.new.taken ≡ self.old.taken)
             × (first + pages ≤ 128 → LacksSomeIn before first (first + pages))) }
     {

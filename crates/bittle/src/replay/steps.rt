@@ -5,7 +5,8 @@ ghost use Rattle.std.specs.Prelude.{◌≡◌, ℕ, ◌+◌, ◌≤◌, ◌∷�
 ghost use Rattle.bittle_bits.specs.PlainSet.{ascending};
 ghost use Rattle.bittle_bits.specs.Walk.{ones_or_zeros, count_after, IsScanBounded};
 ghost use Rattle.bittle_bits.specs.Values.{set_in, ShapeFits, word_count};
-ghost use Rattle.bittle.specs.ListEnds.{answer_of, items_left_by, answers_of, AreScanBounded, KeepsAll};
+ghost use Rattle.bittle.specs.ListEnds.{answer_of, items_left_by, answers_of, AreScanBounded};
+ghost use Rattle.bittle.specs.ListEnds.{KeepsAll};
 
 use bittle_bits::bits::Bits;
 use bittle_bits::endian::Endian;

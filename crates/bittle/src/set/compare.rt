@@ -1,13 +1,15 @@
 //! Equality and comparison of two sets. If both sets have words of the same width and are read in
 //! the same bit order, they are compared by words, and their first difference decides.
 
-ghost use Rattle.std.specs.Cmp.{partial_equiv_from_equiv, partial_order_from_agreeing_total, on_equiv, on_total};
+ghost use Rattle.std.specs.Cmp.{partial_equiv_from_equiv, partial_order_from_agreeing_total};
+ghost use Rattle.std.specs.Cmp.{on_equiv, on_total};
 ghost use Rattle.std.specs.Cmp.Lexicographic.{nat_list_eq_equiv, nat_list_cmp_total, texts_ties};
 ghost use Rattle.std.specs.Ordering.{MatchOrdering, on, as_partial_cmp};
 ghost use Rattle.std.specs.Prelude.{◌≡◌, ◌↔◌, false, not, IsTrue, MatchBool, refl};
 ghost use Rattle.bittle_bits.specs.PlainSet.{ascending};
 ghost use Rattle.bittle_bits.specs.Values.{set_in, ShapeFits};
-ghost use Rattle.bittle.specs.Comparison.{list_cmp, list_eq, AreCompared, AreSame, GoesOn, HasPast, HasNonePast, TellsFirstDifferenceOf, Precedes};
+ghost use Rattle.bittle.specs.Comparison.{list_cmp, list_eq, AreCompared, AreSame, GoesOn, HasPast};
+ghost use Rattle.bittle.specs.Comparison.{HasNonePast, TellsFirstDifferenceOf, Precedes};
 
 use super::Set;
 use bittle_bits::bits::Bits;

@@ -28,7 +28,8 @@ pub fn write_all<I: Counted + Drop, W: fmt::Write>(
     f: &mut fmt::Formatter<W>,
 ) -> fmt::Result
     requires { IsFinite (I.remaining indexes) }
-    ensures { WritesOnOk W.write_str_gives f.old result (list_text (I.walk indexes).remaining) f.new }
+    ensures { WritesOnOk W.write_str_gives f.old result
+        (list_text (I.walk indexes).remaining) f.new }
 {
     f.write_str("{")?;
     let mut first = true;

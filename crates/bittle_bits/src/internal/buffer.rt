@@ -3,7 +3,9 @@
 //! item left.
 
 ghost use Rattle.std.specs.Prelude.{◌≡◌, ℕ, ◌+◌, ◌-◌, ◌*◌, ◌<◌, not, cond, false, Some, None};
-ghost use Rattle.bittle_bits.specs.Buffers.{edge_from_first, buffer_count, buffer_of, items_held, members_in_word, word_items, HoldsSound, Refills, ScansFrom, TellsExhausted};
+ghost use Rattle.bittle_bits.specs.Buffers.{edge_from_first, buffer_count, buffer_of, items_held};
+ghost use Rattle.bittle_bits.specs.Buffers.{members_in_word, word_items, HoldsSound, Refills};
+ghost use Rattle.bittle_bits.specs.Buffers.{ScansFrom, TellsExhausted};
 ghost use Rattle.bittle_bits.specs.Orders.{place};
 ghost use Rattle.bittle_bits.specs.Values.{ShapeFits};
 
@@ -339,7 +341,8 @@ impl<W: Word, E: Endian> Buffers<W, E> {
     )
         requires fits { ShapeFits B.Shape source.now.set.now }
         requires within { k * B.width < (B.big source.now.set.now).capacity }
-        ensures { let loaded = Some (members_in_word B.Shape E.Endian K.Kind source.now.set.now k) in
+        ensures { let loaded =
+            Some (members_in_word B.Shape E.Endian K.Kind source.now.set.now k) in
             self.new ≡ record {
               head = cond N.FRONT loaded self.old.head;
               tail = cond N.FRONT self.old.tail loaded;
@@ -362,7 +365,8 @@ impl<W: Word, E: Endian> Buffers<W, E> {
     ) -> bool
         requires fits { ShapeFits B.Shape source.now.set.now }
         requires within { k * B.width < (B.big source.now.set.now).capacity }
-        ensures { Refills N.FRONT (members_in_word B.Shape E.Endian K.Kind source.now.set.now k) result
+        ensures { Refills N.FRONT
+            (members_in_word B.Shape E.Endian K.Kind source.now.set.now k) result
             self.old self.new }
     {
         let word = self.fetch::<B, K>(source, k);

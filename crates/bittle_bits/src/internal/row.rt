@@ -1,7 +1,8 @@
 //! The calls on a row: the elements of an array or of a slice. The kind `K` names the set bits or
 //! the unset bits. To pass over words is to skip them without reading them.
 
-ghost use Rattle.std.specs.Prelude.{◌≡◌, ◌+◌, ◌==◌, ◌*◌, ◌%◌, ◌<◌, ◌≤◌, ℕ, Bool, true, false, cond, get_or, length, IsTrue, List, MatchOption};
+ghost use Rattle.std.specs.Prelude.{◌≡◌, ◌+◌, ◌==◌, ◌*◌, ◌%◌, ◌<◌, ◌≤◌, ℕ, Bool, true, false, cond};
+ghost use Rattle.std.specs.Prelude.{get_or, length, IsTrue, List, MatchOption};
 ghost use Rattle.bittle_bits.specs.Orders.{read_in};
 ghost use Rattle.bittle_bits.specs.Pieces.{LiesAt};
 ghost use Rattle.bittle_bits.specs.PlainSet.{contains, with_span_changed, without_members, size};
@@ -108,9 +109,9 @@ pub fn test_bit<T: Bits + FixedCapacity, E: Endian>(
     }
 }
 
-/// Changes the bit at `index` of an array (if `is_array` is `true`) or of a slice: sets it if `K` is
-/// `Ones`, and clears it if `K` is `Zeros`. An index at or past the capacity wraps. With capacity 0
-/// nothing changes.
+/// Changes the bit at `index` of an array (if `is_array` is `true`) or of a slice: sets it if `K`
+/// is `Ones`, and clears it if `K` is `Zeros`. An index at or past the capacity wraps. With
+/// capacity 0 nothing changes.
 #[inline]
 pub fn put_bit<T: BitsMut + FixedCapacity, E: Endian, K: Kind>(
     elements: &mut [T],

@@ -65,9 +65,9 @@ fn next_word<B: ReadWords, K: Kind, N: End>(bits: &B, first: u32, last: u32, k: 
 }
 
 /// Searches the words from `first` to `last` for a bit of the kind `K`. If `N` is the front, it
-/// returns the least index of such a bit from the index `at` of word `first` on. If `N` is the back,
-/// it returns the greatest one up to the index `at` of word `last`. No index is compared with the
-/// far end of the range, since this is the end of a word.
+/// returns the least index of such a bit from the index `at` of word `first` on. If `N` is the
+/// back, it returns the greatest one up to the index `at` of word `last`. No index is compared with
+/// the far end of the range, since this is the end of a word.
 #[inline]
 pub fn end_in_words<B: ReadWords, E: Endian, K: Kind, N: End>(
     bits: &B,

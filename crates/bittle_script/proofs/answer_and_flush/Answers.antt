@@ -21,5 +21,9 @@ returns-clause-answered g c =
     let (given, allowed, put) = c.in_ok-outcome.ensures.answered in (
       given,
       allowed,
-      (put.0, rw c.in_ok-flush.ensures.empty (begun-all _ _ _ _ _ put.1 c.in_ok-flush.ensures.bytes)),
+      (
+        put.0,
+        rw c.in_ok-flush.ensures.empty
+            (begun-all _ _ _ _ _ put.1 c.in_ok-flush.ensures.bytes),
+      ),
     )

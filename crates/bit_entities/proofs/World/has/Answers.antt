@@ -18,7 +18,8 @@ returns-then-entity-bits-clause-value g c =
     found.1))
 
 pub returns-in-None-clause-value : goal.returns-in-None-clause-value
-returns-in-None-clause-value g c = ap (λ o. is_in (set_in g.B.Shape g.B.Order.Endian) o c.args.entity)
+returns-in-None-clause-value g c =
+    ap (λ o. is_in (set_in g.B.Shape g.B.Order.Endian) o c.args.entity)
     (sym (slice_get_past c.args.self.now.components c.args.component c.in-None.ensures.lookup.3))
 
 pub returns-then-entity-bits-clause-lives : goal.returns-then-entity-bits-clause-lives

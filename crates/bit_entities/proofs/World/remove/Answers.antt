@@ -1,9 +1,11 @@
-use Rattle.std.proofs.Common.{◌≡◌, ◌+◌, ◌<◌, true, false, cond, get_or, set, length, sym, ap, ◌∙◌, subst, arith}
+use Rattle.std.proofs.Common.{◌≡◌, ◌+◌, ◌<◌, true, false, cond, get_or, set, length, sym, ap, ◌∙◌}
+use Rattle.std.proofs.Common.{subst, arith}
 use Rattle.std.proofs.lemmas.Option.{slice_get-get_or}
 use Rattle.bittle.specs.PlainSet.{PlainSet, size}
 use Rattle.bittle.specs.Values.{set_in}
 use Rattle.bittle.proofs.CallerChanges.{size_without}
-use Rattle.bit_entities.specs.Entities.{World, IsWorld, world_of, with_component, without_first, without_entity}
+use Rattle.bit_entities.specs.Entities.{World, IsWorld, world_of, with_component, without_first}
+use Rattle.bit_entities.specs.Entities.{without_entity}
 use Rattle.bit_entities.proofs.Masks.{taken_out, number_now, row_changed, one_more_lost}
 use Rattle.bit_entities.proofs.Others.{keeps_nothing, other_lives, other_keeps}
 use Rattle.bit_entities.proofs.Worlds.{losing_is_world, going_is_world, all_lost}
@@ -120,5 +122,6 @@ returns-clause-count g c =
     let within = c.args.self.now.sound.living_are_below entity lives in
     let capacity = ap (λ t. t.capacity) same in
     ap size (sym same)
-    ∙ size_without now entity (omega (arith, capacity, within)) (ap (λ t. t.has entity) same ∙ lives)
+    ∙ size_without now entity (omega (arith, capacity, within))
+    (ap (λ t. t.has entity) same ∙ lives)
     ∙ sym (ap (λ t. size t + 1) c.clear_bit-2.ensures.set)

@@ -35,7 +35,8 @@ invariant_of-self-clause-sound g c =
     let entity = c.in_ok-entity.entity in
     let capacity = g.met.B.FixedCapacity.one_capacity c.args.self.now.alive in
     let bits = c.bits.ensures.value c.args.self.now.fits in
-    let below : entity < w.alive.capacity = omega (arith, capacity, bits, c.in_ok-entity.ensures.1) in
+    let below : entity < w.alive.capacity =
+    omega (arith, capacity, bits, c.in_ok-entity.ensures.1) in
     subst IsWorld (sym (now_lives w entity _ (c.set_bit.ensures.set ∙ put_in w.alive entity below)))
     (living_is_world w entity c.args.self.now.sound below)
 
@@ -114,7 +115,8 @@ returns-in_err-entity-clause-least_dead g c other below dead =
     let bits = c.bits.ensures.value c.args.self.now.fits in
     rw c.from_residual.ensures
     (least_outside alive None
-    (subst (λ (n : ℕ). IsFirstIn (complement alive) 0 n None) (bits ∙ sym capacity) c.in_err-entity.ensures)
+    (subst (λ (n : ℕ). IsFirstIn (complement alive) 0 n None) (bits ∙ sym capacity)
+    c.in_err-entity.ensures)
     other (omega (arith, below, capacity)) dead)
 
 pub returns-clause-least_dead : goal.returns-clause-least_dead
@@ -123,5 +125,6 @@ returns-clause-least_dead g c other below dead =
     let capacity = g.met.B.FixedCapacity.one_capacity c.args.self.now.alive in
     let bits = c.bits.ensures.value c.args.self.now.fits in
     least_outside alive (Some c.in_ok-entity.entity)
-    (subst (λ (n : ℕ). IsFirstIn (complement alive) 0 n (Some c.in_ok-entity.entity)) (bits ∙ sym capacity) c.in_ok-entity.ensures)
+    (subst (λ (n : ℕ). IsFirstIn (complement alive) 0 n (Some c.in_ok-entity.entity))
+    (bits ∙ sym capacity) c.in_ok-entity.ensures)
     other (omega (arith, below, capacity)) dead

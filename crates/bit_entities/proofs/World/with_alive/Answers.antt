@@ -18,5 +18,6 @@ invariant_of-result-clause-sound g c =
     let ends = members-past g.B.Order.Endian.mirrored _ _ words.width_positive
     (words.whole_words c.args.alive) (words.none_past c.args.alive) in
     subst IsWorld (sym (bare_is g.row.N (set_in g.B.Shape g.B.Order.Endian) c.args.alive
-    c.zeros.result (λ k. ap (λ s. s.has k) (c.zeros.ensures.in_each_order g.B.Order.Endian.mirrored))))
+    c.zeros.result (λ k. ap (λ s. s.has k)
+    (c.zeros.ensures.in_each_order g.B.Order.Endian.mirrored))))
     (bare_is_world alive g.row.N ends)

@@ -10,7 +10,8 @@ returns-then-end-bits g c =
     let map : PlainSet = set_in g.B.Shape g.B.Order.Endian c.args.self.now.map in
     let capacity = g.met.B.FixedCapacity.one_capacity c.args.self.now.map in
     let bits = c.bits.ensures.value c.args.self.now.fits in
-    let both = all_taken map c.args.length c.args.first c.in-Some.end c.all_in_range.result (omega arith)
+    let both = all_taken map c.args.length c.args.first c.in-Some.end
+    c.all_in_range.result (omega arith)
     (omega (arith, capacity, bits, c.if-end-bits.true))
     (c.all_in_range.ensures.unset (omega (arith, capacity, bits, c.if-end-bits.true))) in
     record {

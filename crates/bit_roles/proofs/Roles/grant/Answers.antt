@@ -3,7 +3,8 @@ use Rattle.std.proofs.lemmas.Bool.{lt-ltb}
 use Rattle.std.proofs.lemmas.Option.{slice_get-get_or}
 use Rattle.bittle.specs.Values.{set_in}
 use Rattle.bit_roles.specs.Roles.{Allows, roles_of}
-use Rattle.bit_roles.proofs.RoleLaws.{allows_granted, grant_gives, now_granted, other_roles_keep, other_permissions_keep, stays_allowed, others_gain_nothing}
+use Rattle.bit_roles.proofs.RoleLaws.{allows_granted, grant_gives, now_granted, other_roles_keep}
+use Rattle.bit_roles.proofs.RoleLaws.{other_permissions_keep, stays_allowed, others_gain_nothing}
 use Rattle.bit_roles.proofs.Rows.{row_changed, set_put_in}
 use Rattle.bit_roles.proofs.Roles.grant.Goals as goal
 

@@ -3,7 +3,8 @@ use Rattle.std.proofs.lemmas.Option.{same_Some}
 use Rattle.bittle.specs.Values.{set_in}
 use Rattle.bit_roles.specs.Roles.{Allows, ancestor, may_inherit, roles_of}
 use Rattle.bit_roles.specs.declared.Request.TheVariants.{Inherit}
-use Rattle.bit_roles.proofs.RoleLaws.{done_exactly, less_both, inherit_gives, other_parents_keep, others_allow_same}
+use Rattle.bit_roles.proofs.RoleLaws.{done_exactly, less_both, inherit_gives, other_parents_keep}
+use Rattle.bit_roles.proofs.RoleLaws.{others_allow_same}
 use Rattle.bit_roles.proofs.Rows.{lesser_written, parent_written, row_with_parent}
 use Rattle.bit_roles.proofs.Roles.inherit.Goals as goal
 

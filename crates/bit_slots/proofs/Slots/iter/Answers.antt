@@ -1,5 +1,6 @@
 use Rattle.std.proofs.Common.{◌≡◌, ◌+◌, ap, slice_get, arith}
-use Rattle.bit_slots.proofs.RowEntries.{entries_are, entries_at_most, entries_have, entry_within, slots_rise}
+use Rattle.bit_slots.proofs.RowEntries.{entries_are, entries_at_most, entries_have, entry_within}
+use Rattle.bit_slots.proofs.RowEntries.{slots_rise}
 use Rattle.bit_slots.proofs.Slots.iter.Goals as goal
 
 pub returns-clause-found : goal.returns-clause-found

@@ -1,7 +1,8 @@
 use Rattle.std.proofs.Common.{◌+◌, ◌%◌, sym, ap, ◌∙◌, arith}
 use Rattle.bittle_bits.specs.Values.{set_in}
 use Rattle.bittle_bits.specs.PlainSet.{with_span}
-use Rattle.bittle.proofs.RangeSets.{IsEnough, with_wrapped_range-none, no_range, one_span, two_spans}
+use Rattle.bittle.proofs.RangeSets.{IsEnough, with_wrapped_range-none, no_range, one_span}
+use Rattle.bittle.proofs.RangeSets.{two_spans}
 use Rattle.bittle.proofs.macros.put_through_in.Given.{Over}
 use Rattle.bittle.proofs.macros.put_through_in.Goals.{After-min-count}
 use Rattle.bittle.proofs.macros.put_through_in.Goals as goal

@@ -10,7 +10,8 @@ unfolding replies_of final_set
 loop-i-init g c = record { replies = refl; set = refl; stays = refl }
 
 pub make_call-requires : goal.make_call-requires
-make_call-requires g c = subst (Fits g.B.Shape.indexable) (run-capacity _ _ _ c.loop-i.invariant.set)
+make_call-requires g c = subst (Fits g.B.Shape.indexable)
+    (run-capacity _ _ _ c.loop-i.invariant.set)
     c.requires.fits
 
 pub loop-i-preserved : goal.loop-i-preserved

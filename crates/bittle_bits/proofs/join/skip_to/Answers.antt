@@ -13,7 +13,12 @@ returns-in_err-item-clause-ran g c =
     let e = c.from_residual.ensures in
     let short : length inv.1.0 ≤ c.args.count = omega (arith, inv.1.2) in (
       inv.1.0,
-      (_, inv.1.1, it.said g.I.Iterator.next_gives (c.in_err-item.was ∙ sym e) c.take.ensures.steps),
+      (
+        _,
+        inv.1.1,
+        it.said g.I.Iterator.next_gives (c.in_err-item.was ∙ sym e)
+            c.take.ensures.steps,
+      ),
       tell_None _ _ e short,
     )
 
@@ -23,7 +28,12 @@ loop-item-preserved g c =
     let x = c.in_ok-item.item in
     let told = c.in_ok-item.ensures in (
       told.keeps,
-      (inv.1.0 ++ (x ∷ []), it.Yields-more g.I.Iterator.next_gives _ inv.1.0 _ x _ inv.1.1 told.steps, omega (arith, inv.1.2, c.if-left-eq0.false, length_more inv.1.0 x)),
+      (
+        inv.1.0 ++ (x ∷ []),
+        it.Yields-more g.I.Iterator.next_gives _ inv.1.0 _ x _ inv.1.1
+            told.steps,
+        omega (arith, inv.1.2, c.if-left-eq0.false, length_more inv.1.0 x),
+      ),
     )
 
 pub returns-then-left-eq0-clause-ran : goal.returns-then-left-eq0-clause-ran

@@ -4,7 +4,8 @@ use Rattle.std.proofs.lemmas.Bool.{eq-eqb, eqb-true, eqb-false, not-false, trueâ
 use Rattle.bittle_bits.proofs.Halves.{taken_high, taken_low}
 use Rattle.bittle_bits.proofs.WordSizes.{zero_lists_none, none_listed}
 use Rattle.bittle_bits.proofs.one_word.pop_from_half.Goals as goal
-use Rattle.bittle_bits.proofs.one_word.pop_from_half.Goals.{then-is_mirrored-FRONT, else-is_mirrored-FRONT}
+use Rattle.bittle_bits.proofs.one_word.pop_from_half.Goals.{then-is_mirrored-FRONT}
+use Rattle.bittle_bits.proofs.one_word.pop_from_half.Goals.{else-is_mirrored-FRONT}
 
 pub returns-in_err-place-clause-found : goal.returns-in_err-place-clause-found
 returns-in_err-place-clause-found g c =

@@ -1,4 +1,5 @@
-use Rattle.std.proofs.Common.{◌≡◌, suc, ◌-◌, ◌/◌, ◌^◌, ◌==◌, ◌++◌, Ok, bit_and, refl, sym, ap, ◌∙◌, arith}
+use Rattle.std.proofs.Common.{◌≡◌, suc, ◌-◌, ◌/◌, ◌^◌, ◌==◌, ◌++◌, Ok, bit_and, refl, sym, ap, ◌∙◌}
+use Rattle.std.proofs.Common.{arith}
 use Rattle.std.proofs.Output.{writes_in_calls_nil, writes_on_IsOk-append}
 use Rattle.std.proofs.lemmas.Nat.{and_mask}
 use Rattle.bittle.specs.BitPatterns.{bit_set}
@@ -16,7 +17,8 @@ loop-index-preserved g c =
     let v = c.loop-index.invariant in
     let some = c.loop-index-test.true in
     let next : c.loop-index.index ≡ suc k = omega (arith, some) in
-    let bit = ap (λ n. n == 1) (and_mask (d / 2 ^ k) 1) ∙ sym (bit_has-at w d k (omega (arith, v.most, some))) in
+    let bit = ap (λ n. n == 1) (and_mask (d / 2 ^ k) 1)
+    ∙ sym (bit_has-at w d k (omega (arith, v.most, some))) in
     let text : digits_below s.has c.loop-index.index
     ≡ digit (bit_and (d / 2 ^ k) 1 == 1) ++ digits_below s.has k =
     ap (digits_below s.has) next ∙ digits_next s.has k

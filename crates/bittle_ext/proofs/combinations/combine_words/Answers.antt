@@ -2,7 +2,9 @@ use Rattle.std.proofs.Common.{◌+◌, ◌*◌, ◌≤◌, not, ◌||◌, nat_lt
 use Rattle.std.proofs.Math.Nat.{mul-le-mul_right}
 use Rattle.std.proofs.lemmas.Bool.{lt-ltb, le-ltb}
 use Rattle.bittle.specs.Values.{set_in}
-use Rattle.bittle_ext.proofs.CombinedSets.{combined, DecidesWord, combined_past, combined_each, tells_none, made, tells_more, tells_all, told_where, told_same}
+use Rattle.bittle_ext.proofs.CombinedSets.{combined, DecidesWord, combined_past, combined_each}
+use Rattle.bittle_ext.proofs.CombinedSets.{tells_none, made, tells_more, tells_all, told_where}
+use Rattle.bittle_ext.proofs.CombinedSets.{told_same}
 use Rattle.bittle_ext.proofs.CommonCounts.{word_inside}
 use Rattle.bittle_ext.proofs.RankFacts.{end_of_words}
 use Rattle.bittle_ext.proofs.WordsReplaced.{adds_upward, more_replaced, none_replaced, all_replaced}

@@ -6,7 +6,8 @@ use Rattle.bittle.specs.PlainSet.{PlainSet}
 use Rattle.bittle.specs.Values.{set_in}
 use Rattle.bittle_bits.proofs.PlainSets.{members-past}
 use Rattle.bittle_ext.specs.Numbers.{with_copied}
-use Rattle.bittle_ext.proofs.CopiedRanges.{BeginsLike, copied_after, copied_none, like_at_most, like_outside}
+use Rattle.bittle_ext.proofs.CopiedRanges.{BeginsLike, copied_after, copied_none, like_at_most}
+use Rattle.bittle_ext.proofs.CopiedRanges.{like_outside}
 use Rattle.bittle_ext.proofs.copies.copy_down.Goals as goal
 
 pub loop-done-init : goal.loop-done-init

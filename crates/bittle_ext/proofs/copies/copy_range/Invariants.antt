@@ -7,7 +7,8 @@ abbrev pub invariant-loop-done : goal.invariant-loop-done
 invariant-loop-done g l = record {
   most : l.done ≤ l.count;
   copied : set_in g.A.Shape g.E.Endian l.set ≡ with_copied
-      (set_in g.A.Shape g.E.Endian l.initial.set) l.at l.done (set_in g.B.Shape g.F.Endian l.other) l.from;
+      (set_in g.A.Shape g.E.Endian l.initial.set) l.at l.done
+      (set_in g.B.Shape g.F.Endian l.other) l.from;
   stays : g.A.Shape.loan l.initial.set ≡ g.A.Shape.loan l.set;
 }
 

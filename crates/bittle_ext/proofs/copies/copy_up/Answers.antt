@@ -4,7 +4,8 @@ use Rattle.bittle.specs.BitPatterns.{bit_set}
 use Rattle.bittle.specs.Orders.{read_in}
 use Rattle.bittle.specs.Values.{set_in}
 use Rattle.bittle_ext.specs.Numbers.{with_copied}
-use Rattle.bittle_ext.proofs.CopiedRanges.{BeginsLike, copied_before, copied_none, last_part, like_outside}
+use Rattle.bittle_ext.proofs.CopiedRanges.{BeginsLike, copied_before, copied_none, last_part}
+use Rattle.bittle_ext.proofs.CopiedRanges.{like_outside}
 use Rattle.bittle_ext.proofs.copies.copy_up.Goals as goal
 
 pub loop-rest-init : goal.loop-rest-init
@@ -21,7 +22,8 @@ pub word_at-word-requires-clause-within : goal.word_at-word-requires-clause-with
 word_at-word-requires-clause-within g c =
     let of = c.width_of_words-width.ensures in
     let w = g.A.Shape.width in
-    let low : (c.args.at + c.loop-rest.rest - 1) % w < w = mod_below _ w g.met.A.ReadWords.width_positive in
+    let low : (c.args.at + c.loop-rest.rest - 1) % w < w =
+    mod_below _ w g.met.A.ReadWords.width_positive in
     omega (arith, rw (of.width) at c.min-less.ensures, low, of.within)
 
 pub put_word-requires-clause-word : goal.put_word-requires-clause-word

@@ -28,7 +28,8 @@ returns g c i h =
     let w = g.B.Shape.width in
     let m = g.E.Endian.mirrored in
     let end = c.min-end.result in
-    let here = (read_in m w (bit_set w (g.B.LeafWord.Word.pattern c.word_near-word.result))).has i in
+    let here = (read_in m w (bit_set w (g.B.LeafWord.Word.pattern c.word_near-word.result))).has
+    i in
     let inside : i < w = omega (arith, h, c.requires.within) in
     cut_to_first m w end _ _ _ i b.width_positive inside
     ((rw b.leaf_width at c.first_bits.ensures) i inside) (rw b.leaf_width at c.on_words.ensures)

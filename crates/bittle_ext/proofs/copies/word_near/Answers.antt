@@ -23,4 +23,5 @@ returns g c =
     near_two g.E.Endian.mirrored w (first / w) (first % w) first c.args.count _ _
     (g.B.Shape.big c.args.set.now) _ b.width_positive (div-add-mod' first w)
     (rw wide at c.nth_leaf_word-word.ensures) (rw (b.leaf_width, wide) at c.window-2.ensures)
-    _ refl (rw wide at c.nth_leaf_word.ensures) (mod_below first w b.width_positive) c.requires.within
+    _ refl (rw wide at c.nth_leaf_word.ensures) (mod_below first w b.width_positive)
+    c.requires.within

@@ -9,7 +9,8 @@ use Rattle.bittle_ext.specs.Rotations.{has_rotated, shifted_down, IsWordFrom}
 use Rattle.bittle_ext.proofs.RotatedSets.{down-past, rotated-past}
 use Rattle.bittle_ext.proofs.RotatedWords.{end_rotated, more_rotated, rotated_none}
 use Rattle.bittle_ext.proofs.WordsReplaced.{adds_downward, none_replaced}
-use Rattle.bittle_ext.proofs.in_place_rotations.rotate_bits.Goals.{then-skipped-eq0, else-skipped-eq0}
+use Rattle.bittle_ext.proofs.in_place_rotations.rotate_bits.Goals.{then-skipped-eq0}
+use Rattle.bittle_ext.proofs.in_place_rotations.rotate_bits.Goals.{else-skipped-eq0}
 use Rattle.bittle_ext.proofs.in_place_rotations.rotate_bits.Goals as goal
 
 pub returns-then-by-eq0-clause-set : goal.returns-then-by-eq0-clause-set

@@ -7,7 +7,8 @@ use Rattle.bittle_ext.specs.Rotations.{has_rotated, shifted_up, IsWordFrom}
 use Rattle.bittle_ext.proofs.RotatedSets.{word_within}
 use Rattle.bittle_ext.proofs.RotatedWords.{more_rotated, start_rotated}
 use Rattle.bittle_ext.proofs.WordsReplaced.{adds_upward, start_alike}
-use Rattle.bittle_ext.proofs.in_place_rotations.rotate_bits_up.Goals.{then-skipped-last, else-skipped-last}
+use Rattle.bittle_ext.proofs.in_place_rotations.rotate_bits_up.Goals.{then-skipped-last}
+use Rattle.bittle_ext.proofs.in_place_rotations.rotate_bits_up.Goals.{else-skipped-last}
 use Rattle.bittle_ext.proofs.in_place_rotations.rotate_bits_up.Goals as goal
 
 pub word_from-start-requires-clause-next : goal.word_from-start-requires-clause-next

@@ -9,7 +9,8 @@ pub returns-clause-runs : goal.returns-clause-runs
 returns-clause-runs g c =
     let l = c.loop-index in
     let run = run_of_exit g.I.Iterator.next_gives _ l.yielded l.rest l.yielded_by c.next.new.self
-    (subst (λ r. g.I.Iterator.next_gives l.rest r c.next.new.self) c.in_default.is c.next.ensures.steps) in (
+    (subst (λ r. g.I.Iterator.next_gives l.rest r c.next.new.self) c.in_default.is
+    c.next.ensures.steps) in (
       run.0,
       run.1,
       run.2,

@@ -5,7 +5,8 @@ use Rattle.bittle_ext.proofs.numbers.ordered.Goals as goal
 pub returns-then-is_mirrored-clause-fits : goal.returns-then-is_mirrored-clause-fits
 returns-then-is_mirrored-clause-fits g c =
     let of = c.width_of.ensures in
-    rw (of.width) (ordered_fits g.W.Word.width c.args.bits c.reversed.result g.met.W.Word.width_positive
+    rw (of.width) (ordered_fits g.W.Word.width c.args.bits c.reversed.result
+    g.met.W.Word.width_positive
     of.within c.reversed.ensures c.reversed.type_inv)
 
 pub returns-then-is_mirrored-clause-set : goal.returns-then-is_mirrored-clause-set

@@ -1,6 +1,7 @@
 use Rattle.std.proofs.Common.{◌∙◌, ◌/◌, ap, not}
 use Rattle.bittle_bits.proofs.WordCalls.{word_tested}
-use Rattle.bittle_ext.proofs.OneBit.{CombinesIndex, bit_combined, combined_alone, contained_in_word, holds_index}
+use Rattle.bittle_ext.proofs.OneBit.{CombinesIndex, bit_combined, combined_alone, contained_in_word}
+use Rattle.bittle_ext.proofs.OneBit.{holds_index}
 use Rattle.bittle_ext.proofs.one_bit.combine_within.Goals as goal
 
 pub returns : goal.returns

@@ -8,7 +8,9 @@ use Rattle.bittle.specs.Values.{set_in}
 use Rattle.bittle.specs.Walk.{ones_or_zeros}
 use Rattle.bittle_bits.proofs.OnesOrZeros.{ones_or_zeros-members}
 use Rattle.bittle_ext.specs.Changes.{with_index_assigned}
-use Rattle.bittle_ext.proofs.OneBit.{CombinesIndex, HoldsIndex, bit_combined, flipped, flipped_alone, flipped_keeps, flipped_changes, has_place, holds_index, holds_kind, least_place}
+use Rattle.bittle_ext.proofs.OneBit.{CombinesIndex, HoldsIndex, bit_combined, flipped}
+use Rattle.bittle_ext.proofs.OneBit.{flipped_alone, flipped_keeps, flipped_changes, has_place}
+use Rattle.bittle_ext.proofs.OneBit.{holds_index, holds_kind, least_place}
 use Rattle.bittle_ext.proofs.RetainedWords.{none_left, popped}
 use Rattle.bittle_ext.proofs.one_bit.flip_first.Given.{Over}
 use Rattle.bittle_ext.proofs.one_bit.flip_first.Goals.{After-bits_of_kind-bits}

@@ -1,4 +1,5 @@
-use Rattle.std.proofs.Common.{◌≡◌, ◌+◌, ◌*◌, ◌≤◌, true, false, false, inl, inr, length, refl, sym, ap, ◌∙◌, subst, arith}
+use Rattle.std.proofs.Common.{◌≡◌, ◌+◌, ◌*◌, ◌≤◌, true, false, false, inl, inr, length, refl, sym}
+use Rattle.std.proofs.Common.{ap, ◌∙◌, subst, arith}
 use Rattle.std.proofs.Math.Nat.{mul-le-mul_right}
 use Rattle.std.proofs.lemmas.Bool.{cases_lt, eqb-true}
 use Rattle.bittle.specs.BitPatterns.{bit_set}
@@ -11,8 +12,11 @@ use Rattle.bittle_bits.proofs.PlainSets.{members-past}
 use Rattle.bittle_ext.specs.Calls.{IsCallableBelow}
 use Rattle.bittle_ext.proofs.CallableBelow.{asks_below, next_below}
 use Rattle.bittle_ext.proofs.RankFacts.{end_of_words}
-use Rattle.bittle_ext.proofs.RetainSteps.{RetainsBelow, retains_none, retains_on, retains_kept, retains_others, retains_all}
-use Rattle.bittle_ext.proofs.RetainedWords.{word_inside, popped, one_more, none_left, halfway_none, found_next, halfway_kept, halfway_gone, halfway_past, halfway_all}
+use Rattle.bittle_ext.proofs.RetainSteps.{RetainsBelow, retains_none, retains_on, retains_kept}
+use Rattle.bittle_ext.proofs.RetainSteps.{retains_others, retains_all}
+use Rattle.bittle_ext.proofs.RetainedWords.{word_inside, popped, one_more, none_left, halfway_none}
+use Rattle.bittle_ext.proofs.RetainedWords.{found_next, halfway_kept, halfway_gone, halfway_past}
+use Rattle.bittle_ext.proofs.RetainedWords.{halfway_all}
 use Rattle.bittle_ext.proofs.retained.retain.Goals as goal
 
 pub loop-k-init : goal.loop-k-init
@@ -146,7 +150,8 @@ loop-index-preserved-then-keep g c =
         h.0,
         k * w + i + 1,
         halfway_kept w k _ _ _ h.0 h.1 b.width_positive h.2 i _ pop _
-            (one_more w i (bit_set w (g.B.LeafWord.Word.pattern c.loop-index.rest)) _ _ _ _ refl refl
+            (one_more w i (bit_set w (g.B.LeafWord.Word.pattern c.loop-index.rest)) _
+            _ _ _ refl refl
             refl pop (rw (b.leaf_width, v.same) at c.on_words-bit.ensures)
             (rw b.leaf_width at c.on_words-kept.ensures)),
         λ first old so_far. retains_kept R _ _ _ _ _ (h.3 first old so_far) (k * w + i)
@@ -224,7 +229,8 @@ loop-k-preserved g c =
     let s = set_in g.B.Shape g.E.Endian c.args.bits.now in
     let after = set_in g.B.Shape g.E.Endian new in
     let none = none_left w _ (rw b.leaf_width at c.in_default.ensures.found).0 in
-    let is = halfway_all m w k _ _ h.1 _ (g.B.Shape.big now) (g.B.Shape.big new) h.0 b.width_positive
+    let is = halfway_all m w k _ _ h.1 _ (g.B.Shape.big now) (g.B.Shape.big new) h.0
+    b.width_positive
     (b.whole_words now) (b.none_past now) (b.none_past new) h.2 none c.change_word.ensures.set
     (rw b.leaf_width at c.ordered_word.ensures.to_indexes) in
     let asked = subst (λ u. RetainsBelow R c.args.keep s c.loop-index.keep u h.1) is

@@ -14,7 +14,8 @@ returns g c =
     (c.bits_capacity.ensures.value c.requires.fits) wide refl in
     rw wide record {
       whole = rw wide at whole;
-      fewer = div_below by w _ b.width_positive (omega (arith, c.requires.within, rw wide at whole));
+      fewer = div_below by w _ b.width_positive
+          (omega (arith, c.requires.within, rw wide at whole));
       within = mod_below by w b.width_positive;
       parts = div-add-mod' by w;
     }

@@ -32,4 +32,5 @@ returns g c =
     (omega (arith, c.requires)) first (ap (λ k. bit_and (c.to_bits-2.result * 2 ^ k % 2 ^ 128)
     c.all_bits-ones.result) same ∙ cut_upper w (w - by) by _ _ (omega arith)
     (omega (arith, c.requires)) ones.width ones.value)
-    (down_twice _ _ (w - by) (omega (arith, same, c.width-width.ensures, c.requires))) c.from_bits.ensures)
+    (down_twice _ _ (w - by) (omega (arith, same, c.width-width.ensures, c.requires)))
+    c.from_bits.ensures)

@@ -3,11 +3,13 @@ use Rattle.bittle_ext.proofs.rotations.word_from.Goals as goal
 
 pub nth_leaf_word-requires-clause-within : goal.nth_leaf_word-requires-clause-within
 nth_leaf_word-requires-clause-within g c =
-    this_within g.B.Shape.width c.args.at c.args.next _ g.met.B.ReadWords.width_positive c.requires.next
+    this_within g.B.Shape.width c.args.at c.args.next _ g.met.B.ReadWords.width_positive
+    c.requires.next
 
 pub nth_leaf_word-requires-2-clause-within : goal.nth_leaf_word-requires-2-clause-within
 nth_leaf_word-requires-2-clause-within g c =
-    next_within g.B.Shape.width c.args.at c.args.next _ g.met.B.ReadWords.width_positive c.requires.next
+    next_within g.B.Shape.width c.args.at c.args.next _ g.met.B.ReadWords.width_positive
+    c.requires.next
 
 pub returns : goal.returns
 returns g c =

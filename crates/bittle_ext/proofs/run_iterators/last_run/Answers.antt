@@ -2,7 +2,8 @@ use Rattle.std.proofs.Common.{arith, ap}
 use Rattle.bittle.specs.Values.{kind_in, set_in}
 use Rattle.bittle_bits.proofs.OnesOrZeros.{ones_or_zeros-capacity}
 use Rattle.bittle_ext.specs.Edges.{paired}
-use Rattle.bittle_ext.proofs.EdgeRuns.{even_old, last_edge, open_run, closed_run, some_left, still_even, rest_alternates}
+use Rattle.bittle_ext.proofs.EdgeRuns.{even_old, last_edge, open_run, closed_run, some_left}
+use Rattle.bittle_ext.proofs.EdgeRuns.{still_even, rest_alternates}
 use Rattle.bittle_ext.proofs.run_iterators.last_run.Goals as goal
 
 pub returns-in_default-clause-gave : goal.returns-in_default-clause-gave
@@ -40,7 +41,8 @@ returns-in-Some-next_back-clause-gave g c =
     let ours = kind_in g.B.Shape g.E.Endian g.K.Kind c.args.bits.now in
     let took = c.in-Some.ensures.steps.gave in
     closed_run ours c.args.to _ _ _ took c.requires.alternate
-    (even_old ours c.args.to _ _ _ took c.requires.alternate _ c.requires.closed c.if-is_open.ensures)
+    (even_old ours c.args.to _ _ _ took c.requires.alternate _ c.requires.closed
+    c.if-is_open.ensures)
     _ _ c.in-Some-next_back.ensures.steps.gave
 
 pub returns-in-Some-next_back-clause-alternate : goal.returns-in-Some-next_back-clause-alternate
@@ -48,7 +50,8 @@ returns-in-Some-next_back-clause-alternate g c =
     let ours = kind_in g.B.Shape g.E.Endian g.K.Kind c.args.bits.now in
     let took = c.in-Some.ensures.steps.gave in
     rest_alternates ours c.args.to _ _ _ took c.requires.alternate
-    (even_old ours c.args.to _ _ _ took c.requires.alternate _ c.requires.closed c.if-is_open.ensures)
+    (even_old ours c.args.to _ _ _ took c.requires.alternate _ c.requires.closed
+    c.if-is_open.ensures)
     _ _ c.in-Some-next_back.ensures.steps.gave
 
 pub returns-in-Some-next_back-clause-closed : goal.returns-in-Some-next_back-clause-closed
@@ -56,7 +59,8 @@ returns-in-Some-next_back-clause-closed g c = λ _.
     let ours = kind_in g.B.Shape g.E.Endian g.K.Kind c.args.bits.now in
     let took = c.in-Some.ensures.steps.gave in
     still_even ours c.args.to _ _ _ took c.requires.alternate
-    (even_old ours c.args.to _ _ _ took c.requires.alternate _ c.requires.closed c.if-is_open.ensures)
+    (even_old ours c.args.to _ _ _ took c.requires.alternate _ c.requires.closed
+    c.if-is_open.ensures)
     _ _ c.in-Some-next_back.ensures.steps.gave
 
 pub returns-in-None-clause-gave : goal.returns-in-None-clause-gave
@@ -64,5 +68,6 @@ returns-in-None-clause-gave g c =
     let ours = kind_in g.B.Shape g.E.Endian g.K.Kind c.args.bits.now in
     let took = c.in-Some.ensures.steps.gave in
     absurd (some_left ours c.args.to _ _ _ took c.requires.alternate
-    (even_old ours c.args.to _ _ _ took c.requires.alternate _ c.requires.closed c.if-is_open.ensures)
+    (even_old ours c.args.to _ _ _ took c.requires.alternate _ c.requires.closed
+    c.if-is_open.ensures)
     c.in-None.ensures.steps.gave.0)

@@ -2,7 +2,9 @@ use Rattle.std.proofs.Common.{◌*◌, refl, arith}
 use Rattle.std.proofs.lemmas.Grind.{div_ceil_times}
 use Rattle.bittle.specs.Values.{kind_in, set_in}
 use Rattle.bittle_bits.proofs.OnesOrZeros.{ones_or_zeros-capacity}
-use Rattle.bittle_ext.proofs.RunFacts.{cut_off_opposite, first_run_before, first_run_past, no_run_before, words_before, others_opposite, none_left, no_room, run_found, run_broken}
+use Rattle.bittle_ext.proofs.RunFacts.{cut_off_opposite, first_run_before, first_run_past}
+use Rattle.bittle_ext.proofs.RunFacts.{no_run_before, words_before, others_opposite, none_left}
+use Rattle.bittle_ext.proofs.RunFacts.{no_room, run_found, run_broken}
 use Rattle.bittle_ext.proofs.runs.next_run_before.Goals as goal
 
 pub next_short_run-requires-clause-within : goal.next_short_run-requires-clause-within

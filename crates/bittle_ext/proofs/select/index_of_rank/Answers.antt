@@ -23,7 +23,8 @@ loop-span-init g c =
       left = ap (λ n. members_below s n + c.args.rest) start;
       to = omega (arith, c.requires.has_it, ap (members_below s) end);
       bits = λ i h. bits_of_whole g.E.Endian.mirrored w k _ _ (g.B.Shape.big c.args.bits.now)
-          b.width_positive c.nth_leaf_word.ensures (rw b.leaf_width at c.ordered_word-word.ensures.to_weights) i
+          b.width_positive c.nth_leaf_word.ensures
+          (rw b.leaf_width at c.ordered_word-word.ensures.to_weights) i
           (omega (arith, h, wide)) ∙ ap s.has (omega arith);
     }
 
@@ -40,7 +41,8 @@ loop-span-preserved-then-below-left g c =
     ∙ ap (λ n. n % 2 ^ half) c.to_bits.ensures.pattern) refl
     (bits_fewer s x from half _ (omega arith) t.bits) in
     let on : from + half ≡ c.args.k * g.B.Shape.width + (c.loop-span.at + half) = omega arith in
-    let end : c.args.k * g.B.Shape.width + (c.loop-span.at + half) + rest ≡ from + c.loop-span.span =
+    let end : c.args.k * g.B.Shape.width + (c.loop-span.at + half) + rest
+    ≡ from + c.loop-span.span =
     omega arith in
     record {
       some = omega (arith, t.some);
@@ -48,7 +50,8 @@ loop-span-preserved-then-below-left g c =
       left = omega (arith, counted, t.left, c.if-below-left.true, ap (members_below s) on);
       to = omega (arith, t.to, ap (members_below s) end);
       bits = λ i h. ap (λ d. bit_at d i == 1) c.shifted-word.ensures
-          ∙ bits_shifted s x half from rest (bits_fewer s x from (half + rest) _ (omega arith) t.bits)
+          ∙ bits_shifted s x half from rest
+          (bits_fewer s x from (half + rest) _ (omega arith) t.bits)
           i h ∙ ap s.has (omega arith);
     }
 

@@ -80,7 +80,8 @@ loop-k-2-init g c =
     (b.none_past c.set_nth_leaf_word-2.new.self) (adds_upward w k b.width_positive)
     c.set_nth_leaf_word-2.ensures.set
     (λ o h. window_above m w k by _ _ _ _ _ (g.B.Shape.big now) b.width_positive
-    c.distance-words.ensures.parts c.distance-words.ensures.within inside (rw one at c.nth_leaf_word-last.ensures)
+    c.distance-words.ensures.parts c.distance-words.ensures.within inside
+    (rw one at c.nth_leaf_word-last.ensures)
     (empty_past w words (k + skipped + 1) _ (g.B.Shape.big now) size (b.none_past now)
     (omega (arith, fewer)) c.zero-none.ensures) (rw b.leaf_width at c.window-2.ensures) o h
     ∙ down_as w k by (k * w + o) _ s _ before (omega arith) past) before in

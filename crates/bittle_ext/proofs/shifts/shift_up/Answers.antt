@@ -106,7 +106,8 @@ loop-k-2-preserved g c =
       high = omega (arith, v.high);
       replaced = more_replaced m w k _ _ _ (has_shifted_up s by) s (g.B.Shape.big now) _
           b.width_positive (b.whole_words now) (b.none_past now)
-          (b.none_past c.set_nth_leaf_word-in-loop-k-2.new.self) (adds_downward w k b.width_positive)
+          (b.none_past c.set_nth_leaf_word-in-loop-k-2.new.self)
+          (adds_downward w k b.width_positive)
           c.set_nth_leaf_word-in-loop-k-2.ensures.set
           (none_below m w _ by _ _ _ k _ s c.distance-words.ensures c.zero-none.ensures
           (omega (arith, v.high, up))) (rw up at v.replaced);

@@ -5,7 +5,8 @@ use Rattle.bittle.specs.BitPatterns.{bit_has}
 use Rattle.bittle.specs.Orders.{place}
 use Rattle.bittle_bits.proofs.BitSets.{bit_has-and, bit_has-zero}
 use Rattle.bittle_ext.proofs.ShortRuns.{one_begins, more_begin, none_begins, first_begins}
-use Rattle.bittle_ext.proofs.short_runs.first_in_word.Goals.{then-loop-known-test+else-not-is_zero, else-loop-known-test}
+use Rattle.bittle_ext.proofs.short_runs.first_in_word.Goals.{then-loop-known-test+else-not-is_zero}
+use Rattle.bittle_ext.proofs.short_runs.first_in_word.Goals.{else-loop-known-test}
 use Rattle.bittle_ext.proofs.short_runs.first_in_word.Goals as goal
 
 pub loop-known-init : goal.loop-known-init
@@ -38,7 +39,8 @@ loop-known-preserved g c =
       most = omega (arith, p.most, more, kept);
       begin = more_begin w c.loop-known.known (c.min.result % c.width.result) _ _ _ _ _ refl refl
           (omega (arith, more, kept, p.some, c.loop-known-test.true)) (omega (arith, more, kept))
-          p.begin c.window.ensures (λ i. ap (λ f. f (place m w i)) (bit_has-zero w _ c.zero.ensures))
+          p.begin c.window.ensures
+          (λ i. ap (λ f. f (place m w i)) (bit_has-zero w _ c.zero.ensures))
           (λ i. ap (λ d. bit_has w d (place m w i)) c.and-begin.ensures
           ∙ ap (λ f. f (place m w i)) (bit_has-and w _ _));
     }

@@ -1,12 +1,19 @@
-use Rattle.std.proofs.Common.{◌≡◌, ◌+◌, ◌-◌, ◌*◌, ◌/◌, ◌<◌, ◌≤◌, Some, None, true, refl, ap, ◌∙◌, arith}
+use Rattle.std.proofs.Common.{◌≡◌, ◌+◌, ◌-◌, ◌*◌, ◌/◌, ◌<◌, ◌≤◌, Some, None, true, refl, ap, ◌∙◌}
+use Rattle.std.proofs.Common.{arith}
 use Rattle.std.proofs.Math.Nat.{mul-le-mul_right}
 use Rattle.bittle.specs.Searches.{PassesOver}
 use Rattle.bittle.specs.Values.{kind_in, word_in}
 use Rattle.bittle_bits.proofs.OnesOrZeros.{passes_in_order}
 use Rattle.bittle_ext.specs.RangeMembers.{members_within}
 use Rattle.bittle_ext.specs.Runs.{cut_off, IsFirstRun}
-use Rattle.bittle_ext.proofs.ShortRuns.{IsOpen, first_since, open_found, run_in_word_found, none_in_word, open_stays, open_anew, open_after_none, open_ended, kind_at, reading_begins, reading_on, none_since}
-use Rattle.bittle_ext.proofs.short_runs.next_short_run.Goals.{Joined-lead-width, then-length-width+in_default, else-length-width, then-lead-width, else-lead-width, then-next-after, else-next-after}
+use Rattle.bittle_ext.proofs.ShortRuns.{IsOpen, first_since, open_found, run_in_word_found}
+use Rattle.bittle_ext.proofs.ShortRuns.{none_in_word, open_stays, open_anew, open_after_none}
+use Rattle.bittle_ext.proofs.ShortRuns.{open_ended, kind_at, reading_begins, reading_on, none_since}
+use Rattle.bittle_ext.proofs.short_runs.next_short_run.Goals.{Joined-lead-width}
+use Rattle.bittle_ext.proofs.short_runs.next_short_run.Goals.{then-length-width+in_default}
+use Rattle.bittle_ext.proofs.short_runs.next_short_run.Goals.{else-length-width, then-lead-width}
+use Rattle.bittle_ext.proofs.short_runs.next_short_run.Goals.{else-lead-width, then-next-after}
+use Rattle.bittle_ext.proofs.short_runs.next_short_run.Goals.{else-next-after}
 use Rattle.bittle_ext.proofs.short_runs.next_short_run.Given.{Over}
 use Rattle.bittle_ext.proofs.short_runs.next_short_run.Goals as goal
 

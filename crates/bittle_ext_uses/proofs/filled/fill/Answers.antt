@@ -2,7 +2,8 @@ use Rattle.std.proofs.Common.{◌≡◌, ◌+◌, ◌<◌, ℕ, true, arith}
 use Rattle.bittle.specs.BitPatterns.{bit_set}
 use Rattle.bittle.specs.PlainSet.{lacks, size, with_index}
 use Rattle.bittle.proofs.CallerSets.{size_at_most}
-use Rattle.bittle_ext.proofs.CallerMembers.{full_if_none_unset, size_after_set_new, unset_where_found}
+use Rattle.bittle_ext.proofs.CallerMembers.{full_if_none_unset, size_after_set_new}
+use Rattle.bittle_ext.proofs.CallerMembers.{unset_where_found}
 use Rattle.bittle_ext_uses.proofs.filled.fill.Goals as goal
 
 -- a turn fills one seat

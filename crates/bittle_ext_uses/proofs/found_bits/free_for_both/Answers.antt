@@ -12,5 +12,6 @@ returns-clause-before c k below =
     let t = bit_set 32 c.args.other in
     let hour = c.in_ok-hour.hour in
     let first : IsFirstIn (complement (either_of s t)) 0 24 (Some hour) =
-    first_unset_in_same _ (either_of s t) 0 24 (Some hour) c.or.ensures.set c.in_ok-hour.ensures.first in
+    first_unset_in_same _ (either_of s t) 0 24 (Some hour) c.or.ensures.set
+    c.in_ok-hour.ensures.first in
     in_either_below_found s t 0 24 hour k first (omega arith) (omega arith) (omega arith) below

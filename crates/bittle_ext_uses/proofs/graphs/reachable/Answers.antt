@@ -1,11 +1,15 @@
-use Rattle.std.proofs.Common.{◌≡◌, ◌≢◌, ◌<◌, ◌⊎◌, ℕ, List, true, false, not, ◌||◌, get_or, inl, inr, sym, ap, ◌∙◌, arith}
+use Rattle.std.proofs.Common.{◌≡◌, ◌≢◌, ◌<◌, ◌⊎◌, ℕ, List, true, false, not, ◌||◌, get_or, inl, inr}
+use Rattle.std.proofs.Common.{sym, ap, ◌∙◌, arith}
 use Rattle.std.proofs.Math.Bool.{or-true}
-use Rattle.std.proofs.lemmas.Bool.{and_parts, cases_eq, lt-ltb, ltb-true, ne_eqb, not-true, or_cases, true≢false}
+use Rattle.std.proofs.lemmas.Bool.{and_parts, cases_eq, lt-ltb, ltb-true, ne_eqb, not-true}
+use Rattle.std.proofs.lemmas.Bool.{or_cases, true≢false}
 use Rattle.bittle.specs.BitPatterns.{bit_has, bit_set}
-use Rattle.bittle.specs.PlainSet.{PlainSet, contains, empty_set, full_set, with_index, without_index}
+use Rattle.bittle.specs.PlainSet.{PlainSet, contains, empty_set, full_set, with_index}
+use Rattle.bittle.specs.PlainSet.{without_index}
 use Rattle.bittle.specs.SetOperations.{union_of}
 use Rattle.bittle.proofs.CallerSets.{combination_within, complement_within, contains_within}
-use Rattle.bittle_ext.proofs.CallerMembers.{has_after_set, has_other_after_clear, has_with_index, size_after_clear_member}
+use Rattle.bittle_ext.proofs.CallerMembers.{has_after_set, has_other_after_clear, has_with_index}
+use Rattle.bittle_ext.proofs.CallerMembers.{size_after_clear_member}
 use Rattle.bittle_ext_uses.proofs.graphs.reachable.Invariants.{IsSearched}
 use Rattle.bittle_ext_uses.proofs.graphs.reachable.Goals as goal
 use Rattle.bittle_ext_uses.proofs.graphs.reachable.Goals.{then-start-lt64, else-start-lt64}
@@ -92,7 +96,8 @@ loop-node-init c = elim c.if-start-lt64.branch [
       (λ k has. one _ _ low is k has)
   | else-start-lt64 w ↦
       let is = ap (λ q. bit_set 64 q) w.queue-is ∙ c.zeros-queue.ensures.value in
-      begins _ _ _ _ c.ones-left.ensures.value (λ below. absurd (omega (arith, below, w.if-start-lt64.false)))
+      begins _ _ _ _ c.ones-left.ensures.value
+      (λ below. absurd (omega (arith, below, w.if-start-lt64.false)))
       (λ k has. absurd (true≢false (sym has ∙ ap (λ s. s.has k) is)))
 ]
   where

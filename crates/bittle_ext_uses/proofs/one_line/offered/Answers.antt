@@ -5,13 +5,15 @@ use Rattle.bittle_ext_uses.proofs.one_line.offered.Goals as goal
 
 pub returns-clause-reserved : goal.returns-clause-reserved
 returns-clause-reserved c = λ k below has.
-    let last = contains_after_operation first_alone _ _ _ k (c.difference.ensures false) below below in
+    let last = contains_after_operation first_alone _ _ _ k (c.difference.ensures false)
+    below below in
     grind (arith, last, has)
 
 pub returns-clause-free : goal.returns-clause-free
 returns-clause-free c = λ k below lacks some.
     let first = contains_after_operation ◌||◌ _ _ _ k (c.union.ensures false) below below in
-    let last = contains_after_operation first_alone _ _ _ k (c.difference.ensures false) below below in
+    let last = contains_after_operation first_alone _ _ _ k (c.difference.ensures false)
+    below below in
     last ∙ rw (first ∙ some, lacks)
 
 pub returns-clause-set : goal.returns-clause-set

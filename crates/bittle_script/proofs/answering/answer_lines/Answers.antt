@@ -1,6 +1,7 @@
 use Rattle.std.proofs.Common.{rules, refl, sym, subst, ◌∙◌}
 use Rattle.bittle_script.specs.GivenAnswers.{IsGiven}
-use Rattle.bittle_script.proofs.AnswerWriting.{answers_step, answers_refused, IsGiven-after, IsGiven-failed_at, under_way-after, under_way-begins}
+use Rattle.bittle_script.proofs.AnswerWriting.{answers_step, answers_refused, IsGiven-after}
+use Rattle.bittle_script.proofs.AnswerWriting.{IsGiven-failed_at, under_way-after, under_way-begins}
 use Rattle.bittle_script.proofs.answering.answer_lines.Goals as goal
 
 pub loop-line-init : goal.loop-line-init

@@ -2,7 +2,8 @@ use Rattle.std.proofs.Common.{rules, [], ◌++◌, refl, sym, ap, ◌∙◌}
 use Rattle.std.specs.Prelude.{codes}
 use Rattle.bittle_script.proofs.Beginnings.{begun-nothing}
 use Rattle.bittle_script.proofs.Outputs.{put-more, put-more_failed, put-rest, puts-failed}
-use Rattle.bittle_script.proofs.MemberLines.{spaced_numbers, join_by-spaced_numbers, spaced_numbers-more}
+use Rattle.bittle_script.proofs.MemberLines.{spaced_numbers, join_by-spaced_numbers}
+use Rattle.bittle_script.proofs.MemberLines.{spaced_numbers-more}
 use Rattle.bittle_script.proofs.answering.print_members.Goals as goal
 
 pub loop-member-init : goal.loop-member-init

@@ -1,10 +1,12 @@
-use Rattle.std.proofs.Common.{◌≡◌, ◌<◌, ◌≤◌, ◌+◌, ◌*◌, ◌/◌, ◌%◌, Bool, true, false, refl, sym, ap, ◌∙◌, arith}
+use Rattle.std.proofs.Common.{◌≡◌, ◌<◌, ◌≤◌, ◌+◌, ◌*◌, ◌/◌, ◌%◌, Bool, true, false, refl, sym, ap}
+use Rattle.std.proofs.Common.{◌∙◌, arith}
 use Rattle.std.proofs.Math.Bool.{beq}
 use Rattle.std.proofs.lemmas.Bool.{true≢false}
 use Rattle.std.proofs.lemmas.Nat.{mod_below}
 use Rattle.bittle_bits.proofs.Words.{word_ends}
 use Rattle.bittle_tiers.specs.TierLaws.{map_indexable}
-use Rattle.bittle_tiers.proofs.Summaries.{index_word, reaches, renewed, same_words, some_put, summary_reaches}
+use Rattle.bittle_tiers.proofs.Summaries.{index_word, reaches, renewed, same_words, some_put}
+use Rattle.bittle_tiers.proofs.Summaries.{summary_reaches}
 use Rattle.bittle_tiers.proofs.tiered.put_and_refresh.Goals as goal
 
 -- two kinds that compare as equal are the same

@@ -7,6 +7,7 @@ invariant-loop-place g l =
     let whole = length (enumerate_source l.initial.place-iterator).remaining in
     record {
       last : l.last ≡ enumerate_count l.place-iterator - 1;
-      count : enumerate_count l.place-iterator + length (enumerate_source l.place-iterator).remaining
+      count : enumerate_count l.place-iterator + length
+          (enumerate_source l.place-iterator).remaining
           ≡ whole;
     }

@@ -2,4 +2,5 @@ use Rattle.bittle_uses.proofs.Lasts.{KeepsLast}
 use Rattle.bittle_uses.proofs.shared_slices.greatest_from_the_left.Given as goal
 
 abbrev pub invariant-loop-index : goal.invariant-loop-index
-invariant-loop-index l = KeepsLast l.last l.index-iterator.remaining l.initial.index-iterator.remaining
+invariant-loop-index l = KeepsLast l.last l.index-iterator.remaining
+    l.initial.index-iterator.remaining

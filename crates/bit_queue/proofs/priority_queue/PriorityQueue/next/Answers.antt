@@ -2,7 +2,8 @@ use Rattle.std.proofs.Common.{ap, ◌∙◌}
 use Rattle.bittle.specs.PlainSet.{PlainSet}
 use Rattle.bittle.specs.Values.{set_in}
 use Rattle.bit_queue.specs.Queue.{without_picked}
-use Rattle.bit_queue.proofs.Urgency.{ready-member, is_taken_out, one_fewer, now_rests, takes_no_other}
+use Rattle.bit_queue.proofs.Urgency.{ready-member, is_taken_out, one_fewer, now_rests}
+use Rattle.bit_queue.proofs.Urgency.{takes_no_other}
 use Rattle.bit_queue.proofs.priority_queue.PriorityQueue.next.Goals as goal
 
 pub returns-in_err-task-clause-task : goal.returns-in_err-task-clause-task

@@ -1,5 +1,6 @@
 use Rattle.std.proofs.Common.{arith}
-use Rattle.bit_queue.proofs.Urgency.{is_removed, removed_rests, removed_is_counted, removes_no_other}
+use Rattle.bit_queue.proofs.Urgency.{is_removed, removed_rests, removed_is_counted}
+use Rattle.bit_queue.proofs.Urgency.{removes_no_other}
 use Rattle.bit_queue.proofs.priority_queue.PriorityQueue.remove.Goals as goal
 
 pub returns-clause-rests : goal.returns-clause-rests

@@ -1,5 +1,6 @@
 use Rattle.std.proofs.Common.{arith}
-use Rattle.bit_queue.proofs.Urgency.{is_woken, is_counted, grows_by_one, is_now_ready, wakes_no_other}
+use Rattle.bit_queue.proofs.Urgency.{is_woken, is_counted, grows_by_one, is_now_ready}
+use Rattle.bit_queue.proofs.Urgency.{wakes_no_other}
 use Rattle.bit_queue.proofs.priority_queue.PriorityQueue.wake.Goals as goal
 
 pub returns-clause-is_ready : goal.returns-clause-is_ready

@@ -2,7 +2,8 @@ use Rattle.std.proofs.Common.{◌+◌, ap, ◌∙◌, arith}
 use Rattle.bittle.specs.PlainSet.{PlainSet}
 use Rattle.bittle.specs.Values.{set_in}
 use Rattle.bit_queue.specs.RoundRobin.{round_at, past_picked}
-use Rattle.bit_queue.proofs.Urgency.{ready-member, is_taken_out, one_fewer, now_rests, takes_no_other}
+use Rattle.bit_queue.proofs.Urgency.{ready-member, is_taken_out, one_fewer, now_rests}
+use Rattle.bit_queue.proofs.Urgency.{takes_no_other}
 use Rattle.bit_queue.proofs.round_robin.RoundRobin.next.Goals as goal
 
 pub overflow_add-self : goal.overflow_add-self

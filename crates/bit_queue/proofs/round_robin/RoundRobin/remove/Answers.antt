@@ -1,6 +1,7 @@
 use Rattle.std.proofs.Common.{ap, arith}
 use Rattle.bit_queue.specs.RoundRobin.{round_at}
-use Rattle.bit_queue.proofs.Urgency.{is_removed, removed_rests, removed_is_counted, removes_no_other}
+use Rattle.bit_queue.proofs.Urgency.{is_removed, removed_rests, removed_is_counted}
+use Rattle.bit_queue.proofs.Urgency.{removes_no_other}
 use Rattle.bit_queue.proofs.round_robin.RoundRobin.remove.Goals as goal
 
 pub returns-clause-rests : goal.returns-clause-rests

@@ -1,6 +1,7 @@
 use Rattle.std.proofs.Common.{ap, arith}
 use Rattle.bit_queue.specs.RoundRobin.{round_at}
-use Rattle.bit_queue.proofs.Urgency.{is_woken, is_counted, grows_by_one, is_now_ready, wakes_no_other}
+use Rattle.bit_queue.proofs.Urgency.{is_woken, is_counted, grows_by_one, is_now_ready}
+use Rattle.bit_queue.proofs.Urgency.{wakes_no_other}
 use Rattle.bit_queue.proofs.round_robin.RoundRobin.wake.Goals as goal
 
 pub returns-clause-is_ready : goal.returns-clause-is_ready

@@ -1,7 +1,8 @@
 use Rattle.std.proofs.Common.{◌≡◌, min, sym, ◌∙◌, arith}
 use Rattle.bittle_bits.proofs.PlainSets.{members-past}
 use Rattle.bittle_bits.specs.Values.{set_in}
-use Rattle.bittle.proofs.FirstDifference.{AreAlikeInCommon, some_among, none_among, first_ends, second_ends, both_end}
+use Rattle.bittle.proofs.FirstDifference.{AreAlikeInCommon, some_among, none_among, first_ends}
+use Rattle.bittle.proofs.FirstDifference.{second_ends, both_end}
 use Rattle.bittle.proofs.set.compare.first_difference_by_words.Given.{Over}
 use Rattle.bittle.proofs.set.compare.first_difference_by_words.Goals.{Else-is_some}
 use Rattle.bittle.proofs.set.compare.first_difference_by_words.Goals as goal

@@ -1,4 +1,5 @@
-use Rattle.std.proofs.Common.{◌≡◌, Bool, true, false, ℕ, List, [], ◌∷◌, ◌++◌, codes, append_assoc, refl, Ok}
+use Rattle.std.proofs.Common.{◌≡◌, Bool, true, false, ℕ, List, [], ◌∷◌, ◌++◌, codes, append_assoc}
+use Rattle.std.proofs.Common.{refl, Ok}
 use Rattle.std.proofs.Output.{writes_on_IsOk-append}
 use Rattle.bittle.specs.DebugText.{index_text}
 use Rattle.bittle.proofs.set.debug.write_all.Invariants.{others_text, rest_text}

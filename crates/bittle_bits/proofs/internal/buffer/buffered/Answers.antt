@@ -1,7 +1,9 @@
 use Rattle.std.proofs.Common.{◌≡◌, ◌+◌, ◌*◌, Some, ap, ◌∙◌, arith}
 use Rattle.bittle_bits.specs.Buffers.{edge_from_first, buffered_items, items_of, IsSound}
 use Rattle.bittle_bits.proofs.internal.buffer.buffered.Given.{Over}
-use Rattle.bittle_bits.proofs.internal.buffer.buffered.Goals.{Joined-is_mirrored, then-FRONT, else-FRONT, then-is_mirrored, else-is_mirrored}
+use Rattle.bittle_bits.proofs.internal.buffer.buffered.Goals.{Joined-is_mirrored, then-FRONT}
+use Rattle.bittle_bits.proofs.internal.buffer.buffered.Goals.{else-FRONT, then-is_mirrored}
+use Rattle.bittle_bits.proofs.internal.buffer.buffered.Goals.{else-is_mirrored}
 use Rattle.bittle_bits.proofs.internal.buffer.buffered.Goals as goal
 
 -- the first index of word k is k times the width

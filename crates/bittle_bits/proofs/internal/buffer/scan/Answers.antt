@@ -1,6 +1,7 @@
 use Rattle.std.proofs.Common.{◌≡◌, true, ◌∙◌, refl, sym}
 use Rattle.bittle_bits.specs.Buffers.{IsSound}
-use Rattle.bittle_bits.proofs.BufferedWords.{dropped, loaded_count, not_empty, taken, with_member, without_items}
+use Rattle.bittle_bits.proofs.BufferedWords.{dropped, loaded_count, not_empty, taken, with_member}
+use Rattle.bittle_bits.proofs.BufferedWords.{without_items}
 use Rattle.bittle_bits.proofs.internal.buffer.scan.Given.{Over}
 use Rattle.bittle_bits.proofs.internal.buffer.scan.Goals.{In-Some}
 use Rattle.bittle_bits.proofs.internal.buffer.scan.Goals as goal

@@ -2,7 +2,8 @@ use Rattle.std.proofs.Common.{◌+◌, ◌*◌, refl, sym, ◌∙◌, arith}
 use Rattle.std.proofs.lemmas.Bool.{eqb-true, eq-eqb}
 use Rattle.bittle_bits.specs.Walk.{ones_or_zeros}
 use Rattle.bittle_bits.proofs.OnesOrZeros.{ones_or_zeros-members}
-use Rattle.bittle_bits.proofs.FirstOnes.{none_next, zero_if_none, each_within, each_is_zero, all_is_zero}
+use Rattle.bittle_bits.proofs.FirstOnes.{none_next, zero_if_none, each_within, each_is_zero}
+use Rattle.bittle_bits.proofs.FirstOnes.{all_is_zero}
 use Rattle.bittle_bits.proofs.internal.by_fours.are_four_empty.Goals as goal
 
 pub returns : goal.returns

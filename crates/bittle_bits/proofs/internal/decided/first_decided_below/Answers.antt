@@ -24,6 +24,7 @@ returns-clause-first g c =
       c.word_width.ensures,
       words_make_up w n a.width_positive whole,
     ) at c.first_in_words.ensures in
-    subst (λ v. MatchOption c.first_in_words.result (NoneDecidedBelow f (read_in m w x) (read_in m v y) n)
+    subst (λ v. MatchOption c.first_in_words.result
+    (NoneDecidedBelow f (read_in m w x) (read_in m v y) n)
     (IsFirstDecided f (read_in m w x) (read_in m v y))) c.requires.width
     (first_decided f m w n x y a.width_positive whole n c.first_in_words.result (omega arith) found)

@@ -29,4 +29,5 @@ returns-then-width-ge32 g c mirrored =
     rows g _ _ _ _ mirrored (omega arith) c.combine_by_fours.ensures
 
 pub returns-else-fixed_capacity-width : goal.returns-else-fixed_capacity-width
-returns-else-fixed_capacity-width g c mirrored = rows g _ _ _ _ mirrored (omega arith) c.combine_each.ensures
+returns-else-fixed_capacity-width g c mirrored =
+    rows g _ _ _ _ mirrored (omega arith) c.combine_each.ensures

@@ -35,5 +35,6 @@ pub returns-clause-at_most : goal.returns-clause-at_most
 returns-clause-at_most g c = size-most _ _ (returns-clause-value g c)
 
 pub returns-clause-in_each_order : goal.returns-clause-in_each_order
-returns-clause-in_each_order g c = size_in_each_order _ _ (λ n. n) _ g.met.T.ReadWords.width_positive
+returns-clause-in_each_order g c = size_in_each_order _ _ (λ n. n) _
+    g.met.T.ReadWords.width_positive
     (words_of _ _ _ g.met.T.FixedCapacity.type_whole_words) (returns-clause-value g c)

@@ -26,11 +26,13 @@ wraps g c =
 
 pub returns-then-is_array : goal.returns-then-is_array
 returns-then-is_array g c =
-    let each = c.fixed_capacity-each.ensures.value (c.requires, g.met.T.FixedCapacity.type_fits c.requires) in
+    let each = c.fixed_capacity-each.ensures.value
+    (c.requires, g.met.T.FixedCapacity.type_fits c.requires) in
     goes_to _ _ _ _ _ each (omega arith) (omega (arith, each)) refl
 
 pub returns : goal.returns
 returns g c =
-    let each = c.fixed_capacity-each.ensures.value (c.requires, g.met.T.FixedCapacity.type_fits c.requires) in
+    let each = c.fixed_capacity-each.ensures.value
+    (c.requires, g.met.T.FixedCapacity.type_fits c.requires) in
     goes_wrapped _ _ _ _ _ each (omega arith) (omega (arith, each))
     (wraps g (goal.at.returns g c).After-wrapped-within)

@@ -8,7 +8,8 @@ use Rattle.bittle_bits.proofs.internal.row.locate_word.Goals as goal
 each : (g : Over) (c : After-word_width g) →
     c.fixed_capacity.result / c.word_width.result ≡ g.met.T.FixedCapacity.type_whole_words.0
 each g c = words_each _ _ _ _ _ g.met.T.ReadWords.width_positive
-    (c.fixed_capacity.ensures.value (c.requires.fits.0, g.met.T.FixedCapacity.type_fits c.requires.fits.0))
+    (c.fixed_capacity.ensures.value
+    (c.requires.fits.0, g.met.T.FixedCapacity.type_fits c.requires.fits.0))
     c.word_width.ensures g.met.T.FixedCapacity.type_whole_words.1
 
 pub nonzero_div-result : goal.nonzero_div-result

@@ -1,6 +1,7 @@
 use Rattle.std.proofs.Common.{◌≡◌, ◌-◌, ◌*◌, ◌<◌, ◌≤◌, length, refl, arith}
 use Rattle.std.proofs.Math.Nat.{mul-le-mul_right}
-use Rattle.bittle_bits.proofs.RowPasses.{end_begins, part_at_end, element_begins, passes_in_row, IsPart}
+use Rattle.bittle_bits.proofs.RowPasses.{end_begins, part_at_end, element_begins, passes_in_row}
+use Rattle.bittle_bits.proofs.RowPasses.{IsPart}
 use Rattle.bittle_bits.proofs.RowWords.{words_each}
 use Rattle.bittle_bits.proofs.internal.row.pass_over_in_element.Given.{Over}
 use Rattle.bittle_bits.proofs.internal.row.pass_over_in_element.Goals.{After-min-to}
@@ -27,7 +28,8 @@ part : (g : Over) (c : After-min-to g) →
 part g c =
     let whole = g.met.T.FixedCapacity.type_whole_words in
     let each = words_each _ _ _ _ whole.0 g.met.T.ReadWords.width_positive
-    (c.fixed_capacity.ensures.value (c.requires.fits.0, g.met.T.FixedCapacity.type_fits c.requires.fits.0))
+    (c.fixed_capacity.ensures.value
+    (c.requires.fits.0, g.met.T.FixedCapacity.type_fits c.requires.fits.0))
     c.word_width.ensures whole.1 in
     let at = begins g c in
     part_at_end g.N.End.FRONT _ _ _ c.locate_word-element.result.1 _ _ _ _

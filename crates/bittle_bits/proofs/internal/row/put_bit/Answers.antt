@@ -14,7 +14,8 @@ returns-then-ONES g c =
     let at = λ (d : g.row.T.Denot). get_or c.args.elements.now c.in-Some.element d in
     rw (sym c.ONES.ensures ∙ c.if-ONES.true, length-set) (row_put _ _ _ _ _ _ _ g.T.Shape.big
     c.args.elements.now _ g.met.T.ReadWords.width_positive g.met.T.FixedCapacity.type_whole_words
-    c.in-Some.ensures (g.met.T.FixedCapacity.one_capacity _) refl (ap at c.index-elements-element.is)
+    c.in-Some.ensures (g.met.T.FixedCapacity.one_capacity _) refl
+    (ap at c.index-elements-element.is)
     true _ c.set_bit_in.ensures.set)
 
 pub returns-else-ONES : goal.returns-else-ONES

@@ -1,6 +1,7 @@
 use Rattle.std.proofs.Common.{arith}
 use Rattle.std.proofs.Math.Nat.{mul-le-mul_right}
-use Rattle.bittle_bits.proofs.Searches.{search_start, search_next, search_found, search_ended, words_begin, words_lie, words_within}
+use Rattle.bittle_bits.proofs.Searches.{search_start, search_next, search_found, search_ended}
+use Rattle.bittle_bits.proofs.Searches.{words_begin, words_lie, words_within}
 use Rattle.bittle_bits.proofs.WordEnds.{end_is_member}
 use Rattle.bittle_bits.proofs.Words.{word_ends}
 use Rattle.bittle_bits.proofs.internal.search.end_in_words.Goals as goal

@@ -9,7 +9,8 @@ use Rattle.bittle_ext.proofs.bits_combine_ext.BitsCombineExt.copy_from.Goals as 
 
 pub returns-clause-set : goal.returns-clause-set
 returns-clause-set g c =
-    c.combine_with.ensures.combined.set ∙ copied (set_in g.Self.Shape g.Self.Order.Endian c.args.self.now)
+    c.combine_with.ensures.combined.set
+    ∙ copied (set_in g.Self.Shape g.Self.Order.Endian c.args.self.now)
     (set_in g.B.Shape g.B.Order.Endian c.args.other.now)
 
 pub returns-clause-at_most : goal.returns-clause-at_most

@@ -48,7 +48,8 @@ returns-in-Some-clause-value g c =
 
 pub returns-in-None-clause-value : goal.returns-in-None-clause-value
 returns-in-None-clause-value g c =
-    not_selected (set_in g.Self.Shape g.Self.Order.Endian c.args.self.now) c.args.rank c.in-None.ensures
+    not_selected (set_in g.Self.Shape g.Self.Order.Endian c.args.self.now) c.args.rank
+    c.in-None.ensures
 
 pub returns-in-Some-clause-found : goal.returns-in-Some-clause-found
 returns-in-Some-clause-found g c =

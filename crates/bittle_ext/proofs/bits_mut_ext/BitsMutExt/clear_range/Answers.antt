@@ -8,7 +8,8 @@ use Rattle.bittle_ext.proofs.bits_mut_ext.BitsMutExt.clear_range.Goals as goal
 pub returns-clause-count : goal.returns-clause-count
 returns-clause-count g c =
     ap size c.clear_range_in.ensures.set
-    ∙ size_without_span (set_in g.Self.Shape g.Self.Order.Endian c.args.self.now) c.args.from c.args.to
+    ∙ size_without_span (set_in g.Self.Shape g.Self.Order.Endian c.args.self.now)
+    c.args.from c.args.to
     c.requires.ordered c.requires.within
 
 pub returns-clause-none : goal.returns-clause-none

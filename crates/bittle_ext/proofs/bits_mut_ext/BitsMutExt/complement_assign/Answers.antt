@@ -18,7 +18,8 @@ pub returns-clause-in_each_order : goal.returns-clause-in_each_order
 returns-clause-in_each_order g c m =
     let old = c.args.self.now in
     ap (read_in m g.Self.Shape.width) (returns-clause-set g c)
-    ∙ sym (complement-members m _ _ g.met.Self.ReadWords.width_positive (g.met.Self.ReadWords.whole_words old))
+    ∙ sym (complement-members m _ _ g.met.Self.ReadWords.width_positive
+    (g.met.Self.ReadWords.whole_words old))
 
 pub returns-clause-count : goal.returns-clause-count
 returns-clause-count g c =

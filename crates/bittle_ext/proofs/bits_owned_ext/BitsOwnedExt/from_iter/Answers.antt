@@ -11,7 +11,8 @@ returns-clause-set g c =
       set.2,
       set.3,
       set.4
-          ∙ ap (λ s. fold with_index s set.2) (c.zeros-set.ensures.in_each_order g.Self.Order.Endian.mirrored),
+          ∙ ap (λ s. fold with_index s set.2)
+          (c.zeros-set.ensures.in_each_order g.Self.Order.Endian.mirrored),
     )
 
 pub returns-clause-runs : goal.returns-clause-runs
@@ -25,6 +26,7 @@ returns-clause-runs g c =
         run.1,
         run.2,
         run.3
-            ∙ ap (λ s. fold with_index s run.0.items) (c.zeros-set.ensures.in_each_order g.Self.Order.Endian.mirrored),
+            ∙ ap (λ s. fold with_index s run.0.items)
+            (c.zeros-set.ensures.in_each_order g.Self.Order.Endian.mirrored),
       ),
     )

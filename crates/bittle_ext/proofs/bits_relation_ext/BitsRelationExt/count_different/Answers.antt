@@ -14,4 +14,10 @@ returns-then-are_alike-clause-value g c =
 pub returns-clause-at_most : goal.returns-clause-at_most
 returns-clause-at_most g c =
     let all = c.count_common-common.ensures in
-    omega (arith, all.just_one, all.most, c.count_ones-2.ensures.value, c.count_ones-3.ensures.value)
+    omega (
+      arith,
+      all.just_one,
+      all.most,
+      c.count_ones-2.ensures.value,
+      c.count_ones-3.ensures.value,
+    )

@@ -7,7 +7,8 @@ returns-clause-unset g c within =
     let ends = c.ends_of-from.ensures in
     all_where_none (set_in g.Self.Shape g.Self.Order.Endian c.args.self.now) _ _
     c.first_zero_in.result c.is_none.result c.is_none.ensures within
-    (rw (ends.start, ends.end, c.capacity_of-capacity.ensures.ends.capacity) at c.first_zero_in.ensures)
+    (rw (ends.start, ends.end, c.capacity_of-capacity.ensures.ends.capacity) at
+    c.first_zero_in.ensures)
 
 pub returns-clause-value : goal.returns-clause-value
 returns-clause-value g c =

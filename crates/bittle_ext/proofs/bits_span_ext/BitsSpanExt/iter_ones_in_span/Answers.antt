@@ -3,4 +3,5 @@ use Rattle.bittle_ext.proofs.bits_span_ext.BitsSpanExt.iter_ones_in_span.Goals a
 
 pub returns-clause-items : goal.returns-clause-items
 returns-clause-items g c =
-    lists_of_part c.part_of-start.ensures.ends c.part_of-start.ensures.part _ c.iter_within.ensures.items
+    lists_of_part c.part_of-start.ensures.ends c.part_of-start.ensures.part _
+    c.iter_within.ensures.items

@@ -3,4 +3,5 @@ use Rattle.bittle_ext.proofs.bits_span_ext.BitsSpanExt.iter_zeros_in_span.Goals 
 
 pub returns-clause-items : goal.returns-clause-items
 returns-clause-items g c =
-    lists_of_part c.part_of-start.ensures.others c.part_of-start.ensures.part _ c.iter_within.ensures.items
+    lists_of_part c.part_of-start.ensures.others c.part_of-start.ensures.part _
+    c.iter_within.ensures.items

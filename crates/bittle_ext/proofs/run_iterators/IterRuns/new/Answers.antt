@@ -14,7 +14,8 @@ invariant_of-result g c =
     let items = (rw c.new.ensures at c.new-2.ensures.remaining) ∙ ap ascending c.of.ensures.set in (
       c.requires,
       c.bits_capacity.ensures.value c.requires,
-      rw items (edges_alternate (kind_in g.B.Shape g.E.Endian g.K.Kind c.args.bits.now) ours.capacity
+      rw items (edges_alternate (kind_in g.B.Shape g.E.Endian g.K.Kind
+          c.args.bits.now) ours.capacity
           (sym (ones_or_zeros-capacity g.K.Kind.ONES ours))),
       λ h. absurd (true≢false (sym h)),
     )

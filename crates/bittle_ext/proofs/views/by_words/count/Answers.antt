@@ -34,7 +34,8 @@ returns-clause-value g c =
     let b = g.met.B.ReadWords in
     let s = g.B.Shape.big c.args.bits.now in
     c.loop-k.invariant ∙ ap (members_below s) (end_of_words g.B.Shape.width s.capacity
-    c.capacity.result c.word_width.result c.loop-k.k b.width_positive (b.whole_words c.args.bits.now)
+    c.capacity.result c.word_width.result c.loop-k.k b.width_positive
+    (b.whole_words c.args.bits.now)
     (c.capacity.ensures.value c.requires) c.word_width.ensures
     (omega (arith, c.loop-k-test.false, c.loop-k.auto.k-end)))
 

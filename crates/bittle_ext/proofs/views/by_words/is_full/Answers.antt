@@ -15,9 +15,11 @@ returns-clause-value g c =
       c.word_width.ensures,
       words_make_up w s.capacity law.width_positive (law.whole_words c.args.bits.now),
     ) at c.first_in_words.ensures in
-    full_just_where s _ (found_none (complement s) s.capacity c.first_in_words.result _ first c.is_none.ensures)
+    full_just_where s _ (found_none (complement s) s.capacity c.first_in_words.result _ first
+    c.is_none.ensures)
 
 pub returns-clause-in_each_order : goal.returns-clause-in_each_order
-returns-clause-in_each_order g c = size_in_each_order _ _ (λ n. n == (g.B.Shape.big c.args.bits.now).capacity) _
+returns-clause-in_each_order g c = size_in_each_order _ _
+    (λ n. n == (g.B.Shape.big c.args.bits.now).capacity) _
     g.met.B.ReadWords.width_positive (g.met.B.ReadWords.whole_words c.args.bits.now)
     (returns-clause-value g c)

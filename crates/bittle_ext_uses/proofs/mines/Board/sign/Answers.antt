@@ -10,10 +10,13 @@ returns-then-test_bit-clause-mine c mined = absurd (true≢false (sym mined
 
 -- after the first test the square is not shown
 pub returns-then-test_bit-2-clause-shown : goal.returns-then-test_bit-2-clause-shown
-returns-then-test_bit-2-clause-shown c shown = absurd (true≢false (sym shown ∙ sym c.if-test_bit.ensures))
+returns-then-test_bit-2-clause-shown c shown =
+    absurd (true≢false (sym shown ∙ sym c.if-test_bit.ensures))
 
 pub returns-else-test_bit-2-clause-shown : goal.returns-else-test_bit-2-clause-shown
-returns-else-test_bit-2-clause-shown c shown = absurd (true≢false (sym shown ∙ sym c.if-test_bit.ensures))
+returns-else-test_bit-2-clause-shown c shown =
+    absurd (true≢false (sym shown ∙ sym c.if-test_bit.ensures))
 
 pub returns-else-test_bit-2-clause-mine : goal.returns-else-test_bit-2-clause-mine
-returns-else-test_bit-2-clause-mine c mined = absurd (true≢false (sym mined ∙ sym c.if-test_bit-2.ensures))
+returns-else-test_bit-2-clause-mine c mined =
+    absurd (true≢false (sym mined ∙ sym c.if-test_bit-2.ensures))

@@ -3,7 +3,8 @@ use Rattle.std.specs.Fmt.{decimal}
 use Rattle.std.proofs.lemmas.Fmt.{decimal_step, decimal_digit}
 use Rattle.bittle_script.proofs.Outputs.{puts-after, puts-failed_before}
 use Rattle.bittle_script.proofs.writing.Output.+put_number.Goals as goal
-use Rattle.bittle_script.proofs.writing.Output.+put_number.Goals.{then-number-ge10+in_ok-put_number, else-number-ge10}
+use Rattle.bittle_script.proofs.writing.Output.+put_number.Goals.{then-number-ge10+in_ok-put_number}
+use Rattle.bittle_script.proofs.writing.Output.+put_number.Goals.{else-number-ge10}
 
 only_digit : (n : ℕ) → n < 10 → decimal n ≡ (48 + n % 10) ∷ []
 only_digit n short = let e : 48 + n % 10 ≡ 48 + n = omega arith in

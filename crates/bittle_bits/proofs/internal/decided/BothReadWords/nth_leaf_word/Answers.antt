@@ -20,7 +20,8 @@ returns g c =
     let theirs : bit_set w (g.A.LeafWord.Word.pattern c.from_bits.result)
     ≡ word_of w t k = ap (bit_set w)
     (c.from_bits.ensures ∙ c.to_bits-theirs.ensures.pattern) ∙ same in
-    let whole = whole_lesser s.capacity t.capacity w g.B.Shape.width both.common both.width both.lesser
+    let whole = whole_lesser s.capacity t.capacity w g.B.Shape.width both.common
+    both.width both.lesser
     (g.met.A.ReadWords.whole_words both.left.now) (g.met.B.ReadWords.whole_words both.right.now) in
     word_decided g.O.Operation.decide w k both.common _ s t
     (word_ends w k both.common whole c.requires.within)

@@ -21,8 +21,13 @@ returns g c =
     ⊎ ((0 < k) × (bit_set w e ≡ word_of w (ones_or_zeros ones big) (k - 1))) =
     elim c.if-k-eq0.branch [
       | then-k-eq0 h ↦ inl (h.if-k-eq0.true, rw h.before-is h.zero-before.ensures)
-      | else-k-eq0 h ↦ inr (omega (arith, h.if-k-eq0.false), rw h.before-is h.word_of_kind-before.ensures)
+      | else-k-eq0 h ↦ inr (
+        omega (arith, h.if-k-eq0.false),
+        rw h.before-is
+            h.word_of_kind-before.ensures,
+      )
     ] in
-    word_of_edges ones g.E.Endian.mirrored w big b.width_positive (b.whole_words c.args.self.now.set.now)
+    word_of_edges ones g.E.Endian.mirrored w big b.width_positive
+    (b.whole_words c.args.self.now.set.now)
     k _ _ _ _ c.requires.within c.word_of_kind-word.ensures before
     (rw b.leaf_width at c.window_up_to-moved.ensures) (rw b.leaf_width at c.on_words.ensures)

@@ -14,7 +14,8 @@ until-requires-clause-holds g c =
     let theirs = c.capacity_of-2.ensures.ends in
     let whole = whole_greater _ w g.B.Shape.width a.leaf_width (a.leaf_width ∙ c.requires.width)
     (a.whole_words c.args.left.now) (b.whole_words c.args.right.now) in
-    holds_either g.O.Operation.decide ours theirs w g.met.O.EitherOperation.takes_second c.max-end.result (omega (
+    holds_either g.O.Operation.decide ours theirs w g.met.O.EitherOperation.takes_second
+    c.max-end.result (omega (
       arith,
       c.max-end.ensures,
       ours.capacity,

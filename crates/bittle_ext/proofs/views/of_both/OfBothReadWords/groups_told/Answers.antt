@@ -6,7 +6,8 @@ use Rattle.bittle.specs.Walk.{ones_or_zeros}
 use Rattle.bittle_bits.proofs.WordGroups.{none_told}
 use Rattle.bittle_ext.specs.Combined.{both_of}
 use Rattle.bittle_ext.specs.Views.{decided_until, read_back}
-use Rattle.bittle_ext.proofs.PassedGroups.{keeps_to_both, tells_either, tells_fewer, tells_in_order, tells_read_back}
+use Rattle.bittle_ext.proofs.PassedGroups.{keeps_to_both, tells_either, tells_fewer, tells_in_order}
+use Rattle.bittle_ext.proofs.PassedGroups.{tells_read_back}
 use Rattle.bittle_ext.proofs.views.of_both.OfBothReadWords.groups_told.Goals as goal
 
 pub returns-then-not-ONES : goal.returns-then-not-ONES

@@ -6,7 +6,8 @@ use Rattle.bittle_bits.proofs.OnesOrZeros.{passes_in_order}
 use Rattle.bittle_ext.specs.Combined.{both_of}
 use Rattle.bittle_ext.specs.Views.{decided_until}
 use Rattle.bittle_ext.proofs.PassedGroups.{few_words, keeps_to_both}
-use Rattle.bittle_ext.proofs.PassedWords.{passes_fewer, passes_from, passes_back, passes_nearer, passes_later, passes_read_back}
+use Rattle.bittle_ext.proofs.PassedWords.{passes_fewer, passes_from, passes_back, passes_nearer}
+use Rattle.bittle_ext.proofs.PassedWords.{passes_later, passes_read_back}
 use Rattle.bittle_ext.proofs.views.of_both.OfBothReadWords.pass_over.Goals as goal
 
 pub passed_by_groups-requires-clause-small : goal.passed_by_groups-requires-clause-small
@@ -61,7 +62,8 @@ returns-then-FRONT-2 g c =
     let ones : g.K.Kind.ONES ≡ true = sym c.ONES.ensures ∙ c.if-not-ONES.false in
     let same : g.A.Shape.width ≡ g.B.Shape.width = sym c.word_width.ensures
     ∙ c.if-not-alike.false ∙ c.word_width-2.ensures in
-    let front : g.N.End.FRONT ≡ true = sym c.FRONT-then-keeps_to_first.ensures ∙ c.if-FRONT-2.true in
+    let front : g.N.End.FRONT ≡ true = sym c.FRONT-then-keeps_to_first.ensures
+    ∙ c.if-FRONT-2.true in
     let first = c.keeps_to_first.ensures c.if-keeps_to_first.true in
     let second = c.keeps_to_second.ensures c.if-not-keeps_to_second.false in
     let ours : PassesOver true w s c.args.low c.args.high c.passed-ours.result =
@@ -70,7 +72,8 @@ returns-then-FRONT-2 g c =
     (rw front at c.passed-ours.ensures) in
     let theirs : PassesOver true w t c.passed-ours.result c.args.high c.passed.result =
     subst (λ u. PassesOver true u t c.passed-ours.result c.args.high c.passed.result) (sym same)
-    (passes_in_order true true g.F.Endian.mirrored g.B.Shape.width c.passed-ours.result c.args.high c.passed.result
+    (passes_in_order true true g.F.Endian.mirrored g.B.Shape.width c.passed-ours.result c.args.high
+    c.passed.result
     (g.B.Shape.big v.right.now) b.width_positive (b.whole_words v.right.now)
     (rw front at c.passed.ensures)) in
     rw front (passes_read_back true g.K.Kind.ONES m w c.args.low c.args.high c.passed.result d
@@ -95,7 +98,8 @@ returns-else-FRONT-2 g c =
     let ones : g.K.Kind.ONES ≡ true = sym c.ONES.ensures ∙ c.if-not-ONES.false in
     let same : g.A.Shape.width ≡ g.B.Shape.width = sym c.word_width.ensures
     ∙ c.if-not-alike.false ∙ c.word_width-2.ensures in
-    let back : g.N.End.FRONT ≡ false = sym c.FRONT-then-keeps_to_first.ensures ∙ c.if-FRONT-2.false in
+    let back : g.N.End.FRONT ≡ false = sym c.FRONT-then-keeps_to_first.ensures
+    ∙ c.if-FRONT-2.false in
     let first = c.keeps_to_first.ensures c.if-keeps_to_first.true in
     let second = c.keeps_to_second.ensures c.if-not-keeps_to_second.false in
     let ours : PassesOver false w s c.args.low c.args.high c.passed-ours.result =
@@ -103,8 +107,10 @@ returns-else-FRONT-2 g c =
     (g.A.Shape.big v.left.now) a.width_positive (a.whole_words v.left.now)
     (rw back at c.passed-ours.ensures) in
     let theirs : PassesOver false w t c.args.low c.passed-ours.result c.passed-else-FRONT-2.result =
-    subst (λ u. PassesOver false u t c.args.low c.passed-ours.result c.passed-else-FRONT-2.result) (sym same)
-    (passes_in_order false true g.F.Endian.mirrored g.B.Shape.width c.args.low c.passed-ours.result c.passed-else-FRONT-2.result
+    subst (λ u. PassesOver false u t c.args.low c.passed-ours.result
+    c.passed-else-FRONT-2.result) (sym same)
+    (passes_in_order false true g.F.Endian.mirrored g.B.Shape.width c.args.low c.passed-ours.result
+    c.passed-else-FRONT-2.result
     (g.B.Shape.big v.right.now) b.width_positive (b.whole_words v.right.now)
     (rw back at c.passed-else-FRONT-2.ensures)) in
     rw back (passes_read_back false g.K.Kind.ONES m w c.args.low c.args.high
@@ -136,7 +142,8 @@ returns-then-FRONT-4 g c =
     (rw front at c.passed-ours.ensures) in
     let theirs : PassesOver true w t c.args.low c.args.high c.passed-theirs.result =
     subst (λ u. PassesOver true u t c.args.low c.args.high c.passed-theirs.result) (sym same)
-    (passes_in_order true true g.F.Endian.mirrored g.B.Shape.width c.args.low c.args.high c.passed-theirs.result
+    (passes_in_order true true g.F.Endian.mirrored g.B.Shape.width c.args.low c.args.high
+    c.passed-theirs.result
     (g.B.Shape.big v.right.now) b.width_positive (b.whole_words v.right.now)
     (rw front at c.passed-theirs.ensures)) in
     rw front (passes_read_back true g.K.Kind.ONES m w c.args.low c.args.high c.min.result d
@@ -166,7 +173,8 @@ returns-else-FRONT-4 g c =
     (rw back at c.passed-ours.ensures) in
     let theirs : PassesOver false w t c.args.low c.args.high c.passed-theirs.result =
     subst (λ u. PassesOver false u t c.args.low c.args.high c.passed-theirs.result) (sym same)
-    (passes_in_order false true g.F.Endian.mirrored g.B.Shape.width c.args.low c.args.high c.passed-theirs.result
+    (passes_in_order false true g.F.Endian.mirrored g.B.Shape.width c.args.low c.args.high
+    c.passed-theirs.result
     (g.B.Shape.big v.right.now) b.width_positive (b.whole_words v.right.now)
     (rw back at c.passed-theirs.ensures)) in
     rw back (passes_read_back false g.K.Kind.ONES m w c.args.low c.args.high c.max.result d

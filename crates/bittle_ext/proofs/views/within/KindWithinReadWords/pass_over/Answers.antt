@@ -7,8 +7,12 @@ use Rattle.bittle_ext.specs.RangeMembers.{kind_within}
 use Rattle.bittle_ext.specs.Views.{read_back}
 use Rattle.bittle_ext.proofs.PassedWords.{passes_from, passes_back, passes_within}
 use Rattle.bittle_ext.proofs.ViewFacts.{before_range, after_range, wholly_before, wholly_after}
-use Rattle.bittle_ext.proofs.views.within.KindWithinReadWords.pass_over.Goals.{then-low-first, else-low-first+then-low-end, else-low-first+else-low-end}
-use Rattle.bittle_ext.proofs.views.within.KindWithinReadWords.pass_over.Goals.{then-end-high, else-end-high+then-first-high, else-end-high+else-first-high}
+use Rattle.bittle_ext.proofs.views.within.KindWithinReadWords.pass_over.Goals.{then-low-first}
+use Rattle.bittle_ext.proofs.views.within.KindWithinReadWords.pass_over.Goals.{else-low-first+then-low-end}
+use Rattle.bittle_ext.proofs.views.within.KindWithinReadWords.pass_over.Goals.{else-low-first+else-low-end}
+use Rattle.bittle_ext.proofs.views.within.KindWithinReadWords.pass_over.Goals.{then-end-high}
+use Rattle.bittle_ext.proofs.views.within.KindWithinReadWords.pass_over.Goals.{else-end-high+then-first-high}
+use Rattle.bittle_ext.proofs.views.within.KindWithinReadWords.pass_over.Goals.{else-end-high+else-first-high}
 use Rattle.bittle_ext.proofs.views.within.KindWithinReadWords.pass_over.Goals as goal
 
 pub returns-after-low-first : goal.returns-after-low-first
@@ -22,7 +26,8 @@ returns-after-low-first g c =
     let first = ap (λ u. v.from / u) c.word_width-width.ensures in
     let front : g.N.End.FRONT ≡ true = sym c.FRONT-2.ensures ∙ c.if-FRONT-2.true in
     let ones : g.L.Kind.ONES ≡ true = sym c.ONES.ensures ∙ c.if-not-ONES.false in
-    let view = read_back m w (kind_within kind (set_in g.B.Shape g.E.Endian v.set.now) v.from v.to) in
+    let view = read_back m w (kind_within kind (set_in g.B.Shape g.E.Endian v.set.now)
+    v.from v.to) in
     let before = before_range kind m w v.from v.to c.args.low c.args.high (v.from / w) at _
     law.width_positive c.requires.ordered (div-mul-le_self v.from w) in
     let start : PassesOver true w view c.args.low c.args.high at = elim c.if-low-first.branch [
@@ -52,7 +57,8 @@ returns-after-end-high g c =
     let first = ap (λ u. v.from / u) c.word_width-width.ensures in
     let back : g.N.End.FRONT ≡ false = sym c.FRONT-2.ensures ∙ c.if-FRONT-2.false in
     let ones : g.L.Kind.ONES ≡ true = sym c.ONES.ensures ∙ c.if-not-ONES.false in
-    let view = read_back m w (kind_within kind (set_in g.B.Shape g.E.Endian v.set.now) v.from v.to) in
+    let view = read_back m w (kind_within kind (set_in g.B.Shape g.E.Endian v.set.now)
+    v.from v.to) in
     let after = after_range kind m w v.from v.to c.args.low c.args.high c.div_ceil-end.result at _
     law.width_positive c.requires.ordered
     (rw (c.div_ceil-end.ensures, c.word_width-width.ensures)
@@ -66,7 +72,8 @@ returns-after-end-high g c =
           law.width_positive c.requires.ordered (div-mul-le_self v.from w)
           (omega (arith, first, b.if-first-high.false)) b.at-is
     ] in
-    rw (back, ones) (passes_back w c.args.low c.args.high at c.pass_over-else-FRONT-2.result view end
+    rw (back, ones) (passes_back w c.args.low c.args.high at
+    c.pass_over-else-FRONT-2.result view end
     (passes_within false kind m w c.args.low at c.pass_over-else-FRONT-2.result v.from v.to
     (g.B.Shape.big v.set.now) law.width_positive (law.whole_words v.set.now)
     (rw back at c.pass_over-else-FRONT-2.ensures)))
