@@ -78,11 +78,23 @@ pub trait Counted: DoubleEndedIterator<Item = u32> {
 ///
 /// Each step yields the first or the last item that remains. Once no item remains, steps from both
 /// ends return `None`. A clone yields the items that remained in the original when it was cloned.
-#[derive(Drop)]
 pub struct Iter<'a, B: Shape, E: Endian, K: Kind> {
     source: Source<'a, B>,
     at: Cursor<B, E>,
     kind: PhantomData<K>,
+}
+
+// A derived drop would be written out, count by count, in each function that ends an iterator. The
+// proof of such a function would take twice as long.
+impl<'a, B: Shape, E: Endian, K: Kind> Drop for Iter<'a, B, E, K> {
+    #[inline(always)]
+    fn drop(self) {
+        let Self {
+            source: _,
+            at: _,
+            kind: _,
+        } = self;
+    }
 }
 
 impl<'a, B: Shape, E: Endian, K: Kind> Model for Iter<'a, B, E, K> {
@@ -184,11 +196,22 @@ impl<'a, B: ReadWords, E: Endian, K: Kind> Counted for Iter<'a, B, E, K> {
 ///
 /// Each step yields the first or the last item that remains. Once no item remains, steps from both
 /// ends return `None`. A clone yields the items that remained in the original when it was cloned.
-#[derive(Drop)]
 pub struct IntoIter<B: Shape, E: Endian, K: Kind> {
     source: OwnedSource<B>,
     at: Cursor<B, E>,
     kind: PhantomData<K>,
+}
+
+// As the drop of `Iter`.
+impl<B: Shape, E: Endian, K: Kind> Drop for IntoIter<B, E, K> {
+    #[inline(always)]
+    fn drop(self) {
+        let Self {
+            source: _,
+            at: _,
+            kind: _,
+        } = self;
+    }
 }
 
 impl<B: Shape, E: Endian, K: Kind> Model for IntoIter<B, E, K> {
