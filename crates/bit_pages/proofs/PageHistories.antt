@@ -15,20 +15,20 @@ use Rattle.std.proofs.lemmas.Map.Views.{any-filter_same}
 use Rattle.std.specs.Prelude.{MatchOption}
 use Rattle.bittle.specs.PlainSet.{PlainSet, complement, is_in_span, size}
 use Rattle.bittle_bits.proofs.Spans.{is_in_span-inside, is_in_span-outside}
-use Rattle.bittle_ext.specs.Runs.{IsFirstRun}
+use Rattle.bittle_ext.specs.Runs.{IsFirstRun, IsRun}
 use Rattle.bittle_ext.proofs.RunCounts.{run_is_unset}
 use Rattle.bit_histories.specs.Histories.{total}
 use Rattle.bit_pages.specs.PageLaws.{IsLeastFree, asks_back, hands_out, pages_back}
 use Rattle.bit_pages.specs.PageLaws.{pages_handed_out, held_with, held_after, held_after_list}
 use Rattle.bit_pages.specs.PageLaws.{outstanding, gives_back, came_back, AreOutstanding}
-use Rattle.bit_pages.specs.Pages.{is_taken, is_free_page, is_run_taken, least_free, first_free_run}
-use Rattle.bit_pages.specs.Pages.{page_or_full, run_or_none, answer_to, state_after}
+use Rattle.bit_pages.specs.Pages.{is_taken, is_free_page, is_run_free, is_run_taken, least_free}
+use Rattle.bit_pages.specs.Pages.{first_free_run, page_or_full, run_or_none, answer_to, state_after}
 use Rattle.bit_pages.specs.Pages.{request_answers, final_state}
 use Rattle.bit_pages.specs.declared.Answer.TheVariants as answer
 use Rattle.bit_pages.specs.declared.Request.{Request}
 use Rattle.bit_pages.specs.declared.Request.TheVariants.{Take, TakeAt, GiveBack, TakeRun}
-use Rattle.bit_pages.specs.declared.Request.TheVariants.{GiveBackRun}
-use Rattle.bit_pages.proofs.FreeRuns.{first_free_run-is}
+use Rattle.bit_pages.specs.declared.Request.TheVariants.{TakeRunAt, GiveBackRun}
+use Rattle.bit_pages.proofs.FreeRuns.{first_free_run-is, run_taken}
 use Rattle.bit_pages.proofs.LeastFree.{least_free-is, free_page}
 use Rattle.bit_pages.proofs.PageSteps.{step}
 
@@ -208,15 +208,26 @@ module _ (s : PlainSet) (held : List ℕ) (kept : ℕ → Bool) (h : AreHeld s h
   held_chosen p false is = same_held held (λ _. false) (λ _. refl) h.distinct
   held_chosen p true is = held_page p (free_page s p (sym is)).1
 
+  -- if a free run is handed out, it is held too
+  held_pages : (f n : ℕ) → IsRun (complement s) n f →
+      AreHeldAfter held (held_with held f n) (is_in_span f (f + n)) (λ _. false)
+  held_pages f n run = record {
+    distinct = with_distinct held f n h.distinct
+        (λ k p q. not_held k (run_is_unset s n f run k p q));
+    any = λ page. any_with page held f n;
+  }
+
   held_run : (n : ℕ) (o : Option ℕ) → IsFirstRun (complement s) 0 n o →
       AreHeldAfter held (held_after held (TakeRun n) (run_or_none o))
       (hands_out (TakeRun n) (run_or_none o)) (λ _. false)
   held_run n None none = same_held held (λ _. false) (λ _. refl) h.distinct
-  held_run n (Some f) first = record {
-    distinct = with_distinct held f n h.distinct
-        (λ k p q. not_held k (run_is_unset s n f first.1 k p q));
-    any = λ page. any_with page held f n;
-  }
+  held_run n (Some f) first = held_pages f n first.1
+
+  held_chosen_run : (f n : ℕ) (b : Bool) → b ≡ is_run_free s f n →
+      AreHeldAfter held (held_after held (TakeRunAt f n) (cond b (answer.Run f) answer.NotFree))
+      (hands_out (TakeRunAt f n) (cond b (answer.Run f) answer.NotFree)) (λ _. false)
+  held_chosen_run f n false is = same_held held (λ _. false) (λ _. refl) h.distinct
+  held_chosen_run f n true is = held_pages f n (run_taken (complement s) f n (sym is))
 
   held_back : (request : Request) (b : Bool) →
       AreHeldAfter held (held_after held request (cond b answer.Given answer.NotTaken))
@@ -237,6 +248,7 @@ module _ (s : PlainSet) (held : List ℕ) (kept : ℕ → Bool) (h : AreHeld s h
   held_next (TakeAt p) = held_chosen p (is_free_page s p) refl
   held_next (GiveBack p) = held_back (GiveBack p) (is_taken s p)
   held_next (TakeRun n) = held_run n (first_free_run s n) (first_free_run-is s n)
+  held_next (TakeRunAt f n) = held_chosen_run f n (is_run_free s f n) refl
   held_next (GiveBackRun f n) = held_back (GiveBackRun f n) (is_run_taken s f n)
 
   -- `AreHeld` still holds after a request

@@ -1,19 +1,19 @@
 -- What follows from the page machine for every request and for every list of requests.
 use Rattle.std.proofs.Common.{◌≡◌, ℕ, zero, suc, ◌<◌, ◌⊎◌, Bool, true, false, cond, Option, Some}
 use Rattle.std.proofs.Common.{None, List, [], ◌∷◌, inl, inr, refl, sym, ap, ◌∙◌, arith}
-use Rattle.std.proofs.lemmas.Bool.{true≢false}
+use Rattle.std.proofs.lemmas.Bool.{false_from_ne_true, true≢false}
 use Rattle.std.specs.Prelude.{◌↔◌, MatchOption}
 use Rattle.bittle.specs.PlainSet.{PlainSet, complement, size}
 use Rattle.bittle.proofs.CallerSets.{size_full, size_whole}
 use Rattle.bittle_ext.specs.Runs.{IsFirstRun, IsRun}
 use Rattle.bit_pages.specs.PageLaws.{IsFree, IsHandedOut, IsGivenBack, IsLeastFree, hands_out}
-use Rattle.bit_pages.specs.Pages.{is_taken, is_free_page, is_run_taken, least_free, first_free_run}
-use Rattle.bit_pages.specs.Pages.{page_or_full, run_or_none, answer_to, state_after}
+use Rattle.bit_pages.specs.Pages.{is_taken, is_free_page, is_run_free, is_run_taken, least_free}
+use Rattle.bit_pages.specs.Pages.{first_free_run, page_or_full, run_or_none, answer_to, state_after}
 use Rattle.bit_pages.specs.Pages.{request_answers}
 use Rattle.bit_pages.specs.declared.Answer.TheVariants as answer
 use Rattle.bit_pages.specs.declared.Request.{Request}
 use Rattle.bit_pages.specs.declared.Request.TheVariants.{Take, TakeAt, GiveBack, TakeRun}
-use Rattle.bit_pages.specs.declared.Request.TheVariants.{GiveBackRun}
+use Rattle.bit_pages.specs.declared.Request.TheVariants.{TakeRunAt, GiveBackRun}
 use Rattle.bit_pages.proofs.FreeRuns.{first_free_run-is, first_run_is, run_taken, taken_run}
 use Rattle.bit_pages.proofs.LeastFree.{least_free-is, least_free-found, free_page, page_free}
 use Rattle.bit_pages.proofs.PageSteps.{IsTaken, given_was_free, page_is_taken, stays_taken}
@@ -54,6 +54,22 @@ chosen_is_not_full false p e = cc
 chosen_is_not_none : (b : Bool) (p : ℕ) → cond b (answer.Page p) answer.NotFree ≡ answer.NoRun → ⊥
 chosen_is_not_none true p e = cc
 chosen_is_not_none false p e = cc
+
+-- a request for a chosen run has no answer but `Run` and `NotFree`
+chosen_run_is_no_page : (b : Bool) (f page : ℕ) →
+    cond b (answer.Run f) answer.NotFree ≡ answer.Page page → ⊥
+chosen_run_is_no_page true f page e = cc
+chosen_run_is_no_page false f page e = cc
+
+chosen_run_is_not_full : (b : Bool) (f : ℕ) →
+    cond b (answer.Run f) answer.NotFree ≡ answer.Full → ⊥
+chosen_run_is_not_full true f e = cc
+chosen_run_is_not_full false f e = cc
+
+chosen_run_is_not_none : (b : Bool) (f : ℕ) →
+    cond b (answer.Run f) answer.NotFree ≡ answer.NoRun → ⊥
+chosen_run_is_not_none true f e = cc
+chosen_run_is_not_none false f e = cc
 
 -- a request for a page is not answered by `Run` or `NoRun`, and a request for a run is not answered
 -- by `Page` or `Full`
@@ -127,6 +143,12 @@ page_is_free_one s (TakeRun n) page =
     none : IsOfFree s (TakeRun n) page → answer_to s (TakeRun n) ≡ answer.Page page
     none (inl e) = let kind = e.0 in absurd (cc)
     none (inr e) = let kind = e.0 in absurd (cc)
+page_is_free_one s (TakeRunAt f n) page =
+    (λ e. absurd (chosen_run_is_no_page (is_run_free s f n) f page e), none)
+  where
+    none : IsOfFree s (TakeRunAt f n) page → answer_to s (TakeRunAt f n) ≡ answer.Page page
+    none (inl e) = let kind = e.0 in absurd (cc)
+    none (inr e) = let kind = e.0 in absurd (cc)
 page_is_free_one s (GiveBackRun f n) page =
     (λ e. absurd (given_is_no_page (is_run_taken s f n) page e), none)
   where
@@ -135,70 +157,155 @@ page_is_free_one s (GiveBackRun f n) page =
     none (inl e) = let kind = e.0 in absurd (cc)
     none (inr e) = let kind = e.0 in absurd (cc)
 
--- `NotFree` is answered exactly if one page is asked for that is not a free page
-pub asked_is_not_free : (s : PlainSet) (request : Request) → (answer_to s request ≡ answer.NotFree)
-    ↔ ((page : ℕ) × (request ≡ TakeAt page) × (IsFree s page → ⊥))
-asked_is_not_free s Take = (
-  λ e. absurd (page_is_free (least_free s) e),
-  λ e. let kind = e.1 in absurd (cc),
-)
-asked_is_not_free s (TakeAt p) = by (is_free_page s p) (free_page s p) (page_free s p)
-  where
-    by : (b : Bool) → (b ≡ true → IsFree s p) → (IsFree s p → b ≡ true) →
-        (cond b (answer.Page p) answer.NotFree ≡ answer.NotFree)
-        ↔ ((page : ℕ) × (TakeAt p ≡ TakeAt page) × (IsFree s page → ⊥))
-    by true free back = (
-      λ e. absurd (cc),
-      λ e. let kind = e.1 in let same : p ≡ e.0 = cc in absurd (e.2 (rw same at (free refl))),
-    )
-    by false free back = (λ e. (p, refl, λ is. absurd (true≢false (sym (back is)))), λ e. refl)
-asked_is_not_free s (GiveBack p) = (
-  λ e. absurd (given_is_free (is_taken s p) e),
-  λ e. let kind = e.1 in absurd (cc),
-)
-asked_is_not_free s (TakeRun n) = (
-  λ e. absurd (run_is_free (first_free_run s n) e),
-  λ e. let kind = e.1 in absurd (cc),
-)
-asked_is_not_free s (GiveBackRun f n) = (
-  λ e. absurd (given_is_free (is_run_taken s f n) e),
-  λ e. let kind = e.1 in absurd (cc),
-)
+-- what a request that is answered by `NotFree` says of the pages that it asks for
+abbrev IsNotOfFree : PlainSet → Request → Type 0
+IsNotOfFree s request =
+    ((page : ℕ) × (request ≡ TakeAt page) × (IsFree s page → ⊥))
+    ⊎ ((first : ℕ) × (n : ℕ) × (request ≡ TakeRunAt first n)
+    × (IsRun (complement s) n first → ⊥))
 
--- a run of pages is answered exactly if a run is asked for and this run is the first free run of
--- its length
-pub run_is_first : (s : PlainSet) (request : Request) (first : ℕ) →
-    (answer_to s request ≡ answer.Run first)
-    ↔ ((n : ℕ) × (request ≡ TakeRun n) × IsFirstRun (complement s) 0 n (Some first))
-run_is_first s Take first = (
-  λ e. absurd (page_is_no_run (least_free s) first e),
-  λ e. let kind = e.1 in absurd (cc),
+chosen_is_false : (b : Bool) (p : ℕ) → cond b (answer.Page p) answer.NotFree ≡ answer.NotFree →
+    b ≡ false
+chosen_is_false true p e = absurd (cc)
+chosen_is_false false p e = refl
+
+chosen_run_is_false : (b : Bool) (f : ℕ) →
+    cond b (answer.Run f) answer.NotFree ≡ answer.NotFree → b ≡ false
+chosen_run_is_false true f e = absurd (cc)
+chosen_run_is_false false f e = refl
+
+-- `NotFree` is answered exactly if one page is asked for that is not a free page, or one run that
+-- is not a free run
+pub asked_is_not_free : (s : PlainSet) (request : Request) →
+    (answer_to s request ≡ answer.NotFree) ↔ IsNotOfFree s request
+asked_is_not_free s Take = (λ e. absurd (page_is_free (least_free s) e), none)
+  where
+    none : IsNotOfFree s Take → answer_to s Take ≡ answer.NotFree
+    none (inl e) = let kind = e.1 in absurd (cc)
+    none (inr e) = let kind = e.2 in absurd (cc)
+asked_is_not_free s (TakeAt p) = (
+  λ e. inl (
+    p,
+    refl,
+    λ is. true≢false (sym (page_free s p is) ∙ chosen_is_false (is_free_page s p) p e),
+  ),
+  found,
 )
-run_is_first s (TakeAt p) first = (
-  λ e. absurd (chosen_is_no_run (is_free_page s p) p first e),
-  λ e. let kind = e.1 in absurd (cc),
+  where
+    found : IsNotOfFree s (TakeAt p) →
+        cond (is_free_page s p) (answer.Page p) answer.NotFree ≡ answer.NotFree
+    found (inl e) =
+        let kind = e.1 in
+        let same : e.0 ≡ p = cc in
+        let none : IsFree s p → ⊥ = rw same at e.2 in
+        ap (λ b. cond b (answer.Page p) answer.NotFree)
+        (false_from_ne_true (is_free_page s p) (λ e. none (free_page s p e)))
+    found (inr e) = let kind = e.2 in absurd (cc)
+asked_is_not_free s (GiveBack p) = (λ e. absurd (given_is_free (is_taken s p) e), none)
+  where
+    none : IsNotOfFree s (GiveBack p) → answer_to s (GiveBack p) ≡ answer.NotFree
+    none (inl e) = let kind = e.1 in absurd (cc)
+    none (inr e) = let kind = e.2 in absurd (cc)
+asked_is_not_free s (TakeRun n) = (λ e. absurd (run_is_free (first_free_run s n) e), none)
+  where
+    none : IsNotOfFree s (TakeRun n) → answer_to s (TakeRun n) ≡ answer.NotFree
+    none (inl e) = let kind = e.1 in absurd (cc)
+    none (inr e) = let kind = e.2 in absurd (cc)
+asked_is_not_free s (TakeRunAt f n) = (
+  λ e. inr (
+    f,
+    n,
+    refl,
+    λ run. true≢false (sym (taken_run (complement s) f n run)
+        ∙ chosen_run_is_false (is_run_free s f n) f e),
+  ),
+  found,
 )
-run_is_first s (GiveBack p) first = (
-  λ e. absurd (given_is_no_run (is_taken s p) first e),
-  λ e. let kind = e.1 in absurd (cc),
-)
-run_is_first s (TakeRun n) first = (by (first_free_run s n) (first_free_run-is s n), found)
+  where
+    found : IsNotOfFree s (TakeRunAt f n) →
+        cond (is_run_free s f n) (answer.Run f) answer.NotFree ≡ answer.NotFree
+    found (inl e) = let kind = e.1 in absurd (cc)
+    found (inr e) =
+        let kind = e.2 in
+        let first : e.0 ≡ f = cc in
+        let many : e.1 ≡ n = cc in
+        let none : IsRun (complement s) n f → ⊥ = rw many at rw first at e.3 in
+        ap (λ b. cond b (answer.Run f) answer.NotFree)
+        (false_from_ne_true (is_run_free s f n) (λ e. none (run_taken (complement s) f n e)))
+asked_is_not_free s (GiveBackRun f n) = (λ e. absurd (given_is_free (is_run_taken s f n) e), none)
+  where
+    none : IsNotOfFree s (GiveBackRun f n) → answer_to s (GiveBackRun f n) ≡ answer.NotFree
+    none (inl e) = let kind = e.1 in absurd (cc)
+    none (inr e) = let kind = e.2 in absurd (cc)
+
+-- what a request for a run, answered by this run, says of the run
+abbrev IsOfFreeRun : PlainSet → Request → ℕ → Type 0
+IsOfFreeRun s request first =
+    ((n : ℕ) × (request ≡ TakeRun n) × IsFirstRun (complement s) 0 n (Some first))
+    ⊎ ((n : ℕ) × (request ≡ TakeRunAt first n) × IsRun (complement s) n first)
+
+-- a run of pages is answered exactly if any run of a length is asked for and this run is the first
+-- free one, or if this run is asked for and free
+pub run_is_free_one : (s : PlainSet) (request : Request) (first : ℕ) →
+    (answer_to s request ≡ answer.Run first) ↔ IsOfFreeRun s request first
+run_is_free_one s Take first = (λ e. absurd (page_is_no_run (least_free s) first e), none)
+  where
+    none : IsOfFreeRun s Take first → answer_to s Take ≡ answer.Run first
+    none (inl e) = let kind = e.1 in absurd (cc)
+    none (inr e) = let kind = e.1 in absurd (cc)
+run_is_free_one s (TakeAt p) first =
+    (λ e. absurd (chosen_is_no_run (is_free_page s p) p first e), none)
+  where
+    none : IsOfFreeRun s (TakeAt p) first → answer_to s (TakeAt p) ≡ answer.Run first
+    none (inl e) = let kind = e.1 in absurd (cc)
+    none (inr e) = let kind = e.1 in absurd (cc)
+run_is_free_one s (GiveBack p) first =
+    (λ e. absurd (given_is_no_run (is_taken s p) first e), none)
+  where
+    none : IsOfFreeRun s (GiveBack p) first → answer_to s (GiveBack p) ≡ answer.Run first
+    none (inl e) = let kind = e.1 in absurd (cc)
+    none (inr e) = let kind = e.1 in absurd (cc)
+run_is_free_one s (TakeRun n) first = (by (first_free_run s n) (first_free_run-is s n), found)
   where
     by : (o : Option ℕ) → IsFirstRun (complement s) 0 n o → run_or_none o ≡ answer.Run first →
-        (m : ℕ) × (TakeRun n ≡ TakeRun m) × IsFirstRun (complement s) 0 m (Some first)
+        IsOfFreeRun s (TakeRun n) first
     by None none e = absurd (cc)
-    by (Some q) is e = let same : q ≡ first = cc in (n, refl, rw same at is)
+    by (Some q) is e = let same : q ≡ first = cc in inl (n, refl, rw same at is)
 
-    found : (m : ℕ) × (TakeRun n ≡ TakeRun m) × IsFirstRun (complement s) 0 m (Some first) →
-        run_or_none (first_free_run s n) ≡ answer.Run first
-    found e =
+    found : IsOfFreeRun s (TakeRun n) first → run_or_none (first_free_run s n) ≡ answer.Run first
+    found (inl e) =
         let kind = e.1 in
         let same : e.0 ≡ n = cc in
         ap run_or_none (sym (first_run_is s n (Some first) (rw same at e.2)))
-run_is_first s (GiveBackRun f n) first = (
-  λ e. absurd (given_is_no_run (is_run_taken s f n) first e),
-  λ e. let kind = e.1 in absurd (cc),
-)
+    found (inr e) = let kind = e.1 in absurd (cc)
+run_is_free_one s (TakeRunAt f n) first =
+    (by (is_run_free s f n) (run_taken (complement s) f n), found)
+  where
+    by : (b : Bool) → (b ≡ true → IsRun (complement s) n f) →
+        cond b (answer.Run f) answer.NotFree ≡ answer.Run first →
+        IsOfFreeRun s (TakeRunAt f n) first
+    by false run e = absurd (cc)
+    by true run e =
+        let same : f ≡ first = cc in
+        inr (n, ap (λ k. TakeRunAt k n) same, rw same at (run refl))
+
+    found : IsOfFreeRun s (TakeRunAt f n) first →
+        cond (is_run_free s f n) (answer.Run f) answer.NotFree ≡ answer.Run first
+    found (inl e) = let kind = e.1 in absurd (cc)
+    found (inr e) =
+        let kind = e.1 in
+        let start : first ≡ f = cc in
+        let many : e.0 ≡ n = cc in
+        ap (λ b. cond b (answer.Run f) answer.NotFree)
+        (taken_run (complement s) f n (rw many at rw start at e.2))
+        ∙ ap answer.Run (sym start)
+run_is_free_one s (GiveBackRun f n) first =
+    (λ e. absurd (given_is_no_run (is_run_taken s f n) first e), none)
+  where
+    none : IsOfFreeRun s (GiveBackRun f n) first →
+        answer_to s (GiveBackRun f n) ≡ answer.Run first
+    none (inl e) = let kind = e.1 in absurd (cc)
+    none (inr e) = let kind = e.1 in absurd (cc)
 
 -- `Full` is answered exactly if a page is asked for and all pages are taken
 pub full_is_taken : (s : PlainSet) (request : Request) → (answer_to s request ≡ answer.Full)
@@ -224,12 +331,16 @@ full_is_taken s (TakeRun n) = (
   λ e. absurd (run_is_not_full (first_free_run s n) e),
   λ e. absurd (cc),
 )
+full_is_taken s (TakeRunAt f n) = (
+  λ e. absurd (chosen_run_is_not_full (is_run_free s f n) f e),
+  λ e. absurd (cc),
+)
 full_is_taken s (GiveBackRun f n) = (
   λ e. absurd (given_is_not_full (is_run_taken s f n) e),
   λ e. absurd (cc),
 )
 
--- `NoRun` is answered exactly if a run is asked for and no free run has that length
+-- `NoRun` is answered exactly if any run of a length is asked for and no free run has that length
 pub none_is_free : (s : PlainSet) (request : Request) → (answer_to s request ≡ answer.NoRun)
     ↔ ((n : ℕ) × (request ≡ TakeRun n) × ((first : ℕ) → IsRun (complement s) n first → ⊥))
 none_is_free s Take = (
@@ -255,6 +366,10 @@ none_is_free s (TakeRun n) = by (first_free_run s n) (first_free_run-is s n)
       λ e. let kind = e.1 in let same : n ≡ e.0 = cc in
           absurd (e.2 q (rw same at is.1)),
     )
+none_is_free s (TakeRunAt f n) = (
+  λ e. absurd (chosen_run_is_not_none (is_run_free s f n) f e),
+  λ e. let kind = e.1 in absurd (cc),
+)
 none_is_free s (GiveBackRun f n) = (
   λ e. absurd (given_is_not_none (is_run_taken s f n) e),
   λ e. let kind = e.1 in absurd (cc),
@@ -274,6 +389,11 @@ chosen_is_not_given : (b : Bool) (p : ℕ) →
     cond b (answer.Page p) answer.NotFree ≡ answer.Given → ⊥
 chosen_is_not_given true p e = cc
 chosen_is_not_given false p e = cc
+
+chosen_run_is_not_given : (b : Bool) (f : ℕ) →
+    cond b (answer.Run f) answer.NotFree ≡ answer.Given → ⊥
+chosen_run_is_not_given true f e = cc
+chosen_run_is_not_given false f e = cc
 
 run_is_not_given : (o : Option ℕ) → run_or_none o ≡ answer.Given → ⊥
 run_is_not_given None e = cc
@@ -308,6 +428,12 @@ given_is_taken s (GiveBack p) = (λ e. inl (p, refl, given_is_true (is_taken s p
 given_is_taken s (TakeRun n) = (λ e. absurd (run_is_not_given (first_free_run s n) e), none)
   where
     none : IsOfTaken s (TakeRun n) → answer_to s (TakeRun n) ≡ answer.Given
+    none (inl e) = let kind = e.1 in absurd (cc)
+    none (inr e) = let kind = e.2 in absurd (cc)
+given_is_taken s (TakeRunAt f n) =
+    (λ e. absurd (chosen_run_is_not_given (is_run_free s f n) f e), none)
+  where
+    none : IsOfTaken s (TakeRunAt f n) → answer_to s (TakeRunAt f n) ≡ answer.Given
     none (inl e) = let kind = e.1 in absurd (cc)
     none (inr e) = let kind = e.2 in absurd (cc)
 given_is_taken s (GiveBackRun f n) =

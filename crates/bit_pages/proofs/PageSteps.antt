@@ -6,19 +6,21 @@ use Rattle.std.proofs.Math.Bool.{and-true, and-false}
 use Rattle.std.proofs.lemmas.Bool.{cases_Bool, eqb-true, leb-true, ltb-true, and_parts, or_left}
 use Rattle.std.proofs.lemmas.Bool.{or_right, true≢false}
 use Rattle.std.specs.Prelude.{MatchOption}
-use Rattle.bittle.specs.PlainSet.{PlainSet, complement, has_changed, is_in_span, size, without_span}
+use Rattle.bittle.specs.PlainSet.{PlainSet, complement, has_changed, is_in_span, size, with_span}
+use Rattle.bittle.specs.PlainSet.{without_span}
 use Rattle.bittle.proofs.CallerChanges.{size_added, size_removed}
-use Rattle.bittle_ext.specs.Runs.{IsFirstRun}
+use Rattle.bittle_ext.specs.Runs.{IsFirstRun, IsRun}
 use Rattle.bittle_ext.proofs.RunCounts.{run_is_unset, size_with_run}
 use Rattle.bit_pages.specs.PageLaws.{IsLeastFree, asks_back, hands_out, gives_back, pages_back}
 use Rattle.bit_pages.specs.PageLaws.{pages_handed_out}
-use Rattle.bit_pages.specs.Pages.{is_taken, is_free_page, is_run_taken, least_free, first_free_run}
+use Rattle.bit_pages.specs.Pages.{is_taken, is_free_page, is_run_free, is_run_taken, least_free}
+use Rattle.bit_pages.specs.Pages.{first_free_run}
 use Rattle.bit_pages.specs.Pages.{page_or_full, run_or_none, with_found, with_page, with_run}
 use Rattle.bit_pages.specs.Pages.{without_page, answer_to, state_after}
 use Rattle.bit_pages.specs.declared.Answer.TheVariants as answer
 use Rattle.bit_pages.specs.declared.Request.{Request}
 use Rattle.bit_pages.specs.declared.Request.TheVariants.{Take, TakeAt, GiveBack, TakeRun}
-use Rattle.bit_pages.specs.declared.Request.TheVariants.{GiveBackRun}
+use Rattle.bit_pages.specs.declared.Request.TheVariants.{TakeRunAt, GiveBackRun}
 use Rattle.bit_pages.proofs.FreeRuns.{first_free_run-is, run_taken}
 use Rattle.bit_pages.proofs.LeastFree.{least_free-is, free_page, taken-within, taken-member}
 use Rattle.bit_pages.proofs.RunCounts.{given_counts}
@@ -96,24 +98,38 @@ back_step s p true is = record {
   counts = omega (arith, size_removed s p (taken-within s p (sym is)) (taken-member s p (sym is)));
 }
 
--- the step of a request for a run of pages
-run_step : (s : PlainSet) (n : ℕ) (o : Option ℕ) → IsFirstRun (complement s) 0 n o →
-    IsStep s (with_run s n o) (hands_out (TakeRun n) (run_or_none o)) (λ _. false)
-    (pages_handed_out (TakeRun n) (run_or_none o)) (pages_back (TakeRun n) (run_or_none o))
+-- the step in which a free run is handed out
+taken_step : (s : PlainSet) (f n : ℕ) → IsRun (complement s) n f →
+    IsStep s (with_span s f (f + n)) (is_in_span f (f + n)) (λ _. false) n 0
 unfolding has_changed
-run_step s n None none = nothing s (λ _. false) (λ _. refl)
-run_step s n (Some f) first = record {
+taken_step s f n run = record {
   capacity = refl;
   has = λ page. taken_or (is_in_span f (f + n) page) (s.has page);
   was_free = λ page e.
       let parts = and_parts (nat_le f page) (nat_lt page (f + n)) e in
-      run_is_unset s n f first.1 page (leb-true f page parts.0) (ltb-true page (f + n) parts.1);
+      run_is_unset s n f run page (leb-true f page parts.0) (ltb-true page (f + n) parts.1);
   within = λ page e.
       let parts = and_parts (nat_le f page) (nat_lt page (f + n)) e in
-      let end : f + n ≤ s.capacity = first.1.0 in
+      let end : f + n ≤ s.capacity = run.0 in
       omega (arith, ltb-true page (f + n) parts.1, end);
-  counts = omega (arith, size_with_run s n f first.1);
+  counts = omega (arith, size_with_run s n f run);
 }
+
+-- the step of a request for a run of pages
+run_step : (s : PlainSet) (n : ℕ) (o : Option ℕ) → IsFirstRun (complement s) 0 n o →
+    IsStep s (with_run s n o) (hands_out (TakeRun n) (run_or_none o)) (λ _. false)
+    (pages_handed_out (TakeRun n) (run_or_none o)) (pages_back (TakeRun n) (run_or_none o))
+run_step s n None none = nothing s (λ _. false) (λ _. refl)
+run_step s n (Some f) first = taken_step s f n first.1
+
+-- the step of a request for a chosen run of pages
+chosen_run_step : (s : PlainSet) (f n : ℕ) (b : Bool) → b ≡ is_run_free s f n →
+    IsStep s (cond b (with_span s f (f + n)) s)
+    (hands_out (TakeRunAt f n) (cond b (answer.Run f) answer.NotFree)) (λ _. false)
+    (pages_handed_out (TakeRunAt f n) (cond b (answer.Run f) answer.NotFree))
+    (pages_back (TakeRunAt f n) (cond b (answer.Run f) answer.NotFree))
+chosen_run_step s f n false is = nothing s (λ _. false) (λ _. refl)
+chosen_run_step s f n true is = taken_step s f n (run_taken (complement s) f n (sym is))
 
 -- the step of a request to give a run of pages back
 back_run_step : (s : PlainSet) (f n : ℕ) (b : Bool) → b ≡ is_run_taken s f n →
@@ -141,6 +157,7 @@ step s Take = page_step s (least_free s) (least_free-is s)
 step s (TakeAt p) = chosen_step s p (is_free_page s p) refl
 step s (GiveBack p) = back_step s p (is_taken s p) refl
 step s (TakeRun n) = run_step s n (first_free_run s n) (first_free_run-is s n)
+step s (TakeRunAt f n) = chosen_run_step s f n (is_run_free s f n) refl
 step s (GiveBackRun f n) = back_run_step s f n (is_run_taken s f n) refl
 
 -- a page that comes back is one that the request gives back
@@ -152,6 +169,7 @@ given_back s (TakeAt p) page e = absurd (cc)
 given_back s (GiveBack p) page e =
     let parts = and_parts (page == p) (is_taken s p) e in (parts.0, rw parts.1 refl)
 given_back s (TakeRun n) page e = absurd (cc)
+given_back s (TakeRunAt f n) page e = absurd (cc)
 given_back s (GiveBackRun f n) page e =
     let parts = and_parts (is_in_span f (f + n) page) (is_run_taken s f n) e in
     (parts.0, rw parts.1 refl)

@@ -1,20 +1,20 @@
 -- Which requests are refused, and which change nothing.
 use Rattle.std.proofs.Common.{◌≡◌, ℕ, ◌+◌, ◌⊎◌, Bool, true, false, cond, Option, Some, None, inl}
 use Rattle.std.proofs.Common.{inr, refl, sym, ap, ◌∙◌, arith}
-use Rattle.std.proofs.lemmas.Bool.{true≢false}
+use Rattle.std.proofs.lemmas.Bool.{false_from_ne_true, true≢false}
 use Rattle.std.specs.Prelude.{◌↔◌}
-use Rattle.bittle.specs.PlainSet.{PlainSet, size, without_span}
+use Rattle.bittle.specs.PlainSet.{PlainSet, size, with_span, without_span}
 use Rattle.bittle_bits.proofs.Spans.{changed-none}
 use Rattle.bittle_ext.specs.Runs.{IsRun}
 use Rattle.bit_pages.specs.PageLaws.{is_refused, length_of, pages_back, pages_handed_out}
-use Rattle.bit_pages.specs.Pages.{is_taken, is_free_page, is_run_taken, least_free, first_free_run}
-use Rattle.bit_pages.specs.Pages.{page_or_full, run_or_none, with_found, with_page, with_run}
-use Rattle.bit_pages.specs.Pages.{without_page, answer_to, state_after}
+use Rattle.bit_pages.specs.Pages.{is_taken, is_free_page, is_run_free, is_run_taken, least_free}
+use Rattle.bit_pages.specs.Pages.{first_free_run, page_or_full, run_or_none, with_found, with_page}
+use Rattle.bit_pages.specs.Pages.{with_run, without_page, answer_to, state_after}
 use Rattle.bit_pages.specs.declared.Answer.{Answer}
 use Rattle.bit_pages.specs.declared.Answer.TheVariants as answer
 use Rattle.bit_pages.specs.declared.Request.{Request}
 use Rattle.bit_pages.specs.declared.Request.TheVariants.{Take, TakeAt, GiveBack, TakeRun}
-use Rattle.bit_pages.specs.declared.Request.TheVariants.{GiveBackRun}
+use Rattle.bit_pages.specs.declared.Request.TheVariants.{TakeRunAt, GiveBackRun}
 use Rattle.bit_pages.proofs.FreeRuns.{run_taken, taken_run}
 use Rattle.bit_pages.proofs.PageSteps.{step}
 
@@ -65,6 +65,13 @@ idle_is_unchanged s (TakeRun n) idle = by (first_free_run s n) idle
     by None h = refl
     by (Some f) (inl e) = absurd (cc)
     by (Some f) (inr e) = changed-none (λ _. true) s f (f + n) (omega (arith, e))
+idle_is_unchanged s (TakeRunAt f n) idle = by (is_run_free s f n) idle
+  where
+    by : (b : Bool) → IsIdle (TakeRunAt f n) (cond b (answer.Run f) answer.NotFree) →
+        cond b (with_span s f (f + n)) s ≡ s
+    by false h = refl
+    by true (inl e) = absurd (cc)
+    by true (inr e) = changed-none (λ _. true) s f (f + n) (omega (arith, e))
 idle_is_unchanged s (GiveBackRun f n) idle = by (is_run_taken s f n) idle
   where
     by : (b : Bool) → IsIdle (GiveBackRun f n) (cond b answer.Given answer.NotTaken) →
@@ -93,6 +100,11 @@ chosen_is_taken : (b : Bool) (p : ℕ) → cond b (answer.Page p) answer.NotFree
 chosen_is_taken true p e = cc
 chosen_is_taken false p e = cc
 
+chosen_run_is_taken : (b : Bool) (f : ℕ) →
+    cond b (answer.Run f) answer.NotFree ≡ answer.NotTaken → ⊥
+chosen_run_is_taken true f e = cc
+chosen_run_is_taken false f e = cc
+
 run_is_taken : (o : Option ℕ) → run_or_none o ≡ answer.NotTaken → ⊥
 run_is_taken None e = cc
 run_is_taken (Some p) e = cc
@@ -100,11 +112,6 @@ run_is_taken (Some p) e = cc
 given_is_false : (b : Bool) → cond b answer.Given answer.NotTaken ≡ answer.NotTaken → b ≡ false
 given_is_false true e = absurd (cc)
 given_is_false false e = refl
-
--- a test that is not true is false
-not_so : (b : Bool) → (b ≡ true → ⊥) → b ≡ false
-not_so true h = absurd (h refl)
-not_so false h = refl
 
 -- `NotTaken` is answered exactly if pages are given back and one of them is not taken
 pub not_taken_is : (s : PlainSet) (request : Request) →
@@ -133,6 +140,11 @@ not_taken_is s (TakeRun n) = (λ e. absurd (run_is_taken (first_free_run s n) e)
     none : IsOfFree s (TakeRun n) → answer_to s (TakeRun n) ≡ answer.NotTaken
     none (inl e) = let kind = e.1 in absurd (cc)
     none (inr e) = let kind = e.2 in absurd (cc)
+not_taken_is s (TakeRunAt f n) = (λ e. absurd (chosen_run_is_taken (is_run_free s f n) f e), none)
+  where
+    none : IsOfFree s (TakeRunAt f n) → answer_to s (TakeRunAt f n) ≡ answer.NotTaken
+    none (inl e) = let kind = e.1 in absurd (cc)
+    none (inr e) = let kind = e.2 in absurd (cc)
 not_taken_is s (GiveBackRun f n) = (
   λ e. inr (
     f,
@@ -153,4 +165,4 @@ not_taken_is s (GiveBackRun f n) = (
         let many : e.1 ≡ n = cc in
         let none : IsRun s n f → ⊥ = rw many at rw first at e.3 in
         ap (λ b. cond b answer.Given answer.NotTaken)
-        (not_so (is_run_taken s f n) (λ e. none (run_taken s f n e)))
+        (false_from_ne_true (is_run_taken s f n) (λ e. none (run_taken s f n e)))

@@ -10,7 +10,7 @@ use Rattle.bittle.proofs.CallerSets.{complement_within}
 use Rattle.bittle_bits.proofs.Spans.{inside_span, outside_span}
 use Rattle.bittle_ext.specs.RangeMembers.{HasAllIn, HasSomeIn}
 use Rattle.bittle_ext.specs.Runs.{IsRun}
-use Rattle.bittle_ext.proofs.RunCounts.{count_run_more}
+use Rattle.bittle_ext.proofs.RunCounts.{count_run_more, run_is_unset}
 use Rattle.bit_pages.specs.Pages.{is_taken}
 
 module _ (s : PlainSet) (n first : ℕ) where
@@ -48,4 +48,22 @@ all_taken s n first end false at within some = (
   λ e. absurd (cc),
   λ run. absurd (true≢false (sym some.3 ∙ complement_within s some.0 (omega (arith, some.2, within))
       ∙ ap not (run.1 some.0 some.1 (omega (arith, at, some.2))))),
+)
+
+-- a test for a taken page up to the end of a run tells whether the run is free
+pub none_taken : (s : PlainSet) (n first end : ℕ) (b : Bool) → end ≡ first + n →
+    end ≤ s.capacity → MatchBool b (HasSomeIn s first end) (NoneIn s first end) →
+    IsTrue (not b) ↔ IsRun (complement s) n first
+none_taken s n first end true at within some = (
+  λ e. absurd (cc),
+  λ run. absurd (true≢false (sym some.3
+      ∙ run_is_unset s n first run some.0 some.1 (omega (arith, at, some.2)))),
+)
+none_taken s n first end false at within none = (
+  λ e. (
+    omega (arith, at, within),
+    λ k p q. complement_within s k (omega (arith, at, within))
+        ∙ ap not (none k p (omega (arith, at, q))),
+  ),
+  λ run. refl,
 )

@@ -9,7 +9,7 @@ use Rattle.bit_pages.specs.Pages.{is_taken, is_run_taken, answer_to, state_after
 use Rattle.bit_pages.specs.Pages.{final_state}
 use Rattle.bit_pages.specs.declared.Request.{Request}
 use Rattle.bit_pages.specs.declared.Request.TheVariants.{Take, TakeAt, GiveBack, TakeRun}
-use Rattle.bit_pages.specs.declared.Request.TheVariants.{GiveBackRun}
+use Rattle.bit_pages.specs.declared.Request.TheVariants.{TakeRunAt, GiveBackRun}
 use Rattle.bit_pages.specs.declared.Answer.{Answer}
 use Rattle.bit_pages.specs.declared.Answer.TheVariants.{Page, Full, NotFree, Given, NotTaken, Run}
 use Rattle.bit_pages.specs.declared.Answer.TheVariants.{NoRun}
@@ -32,13 +32,15 @@ PagesAreFree =
     → (answer_to s request ≡ Page page)
     ↔ (((request ≡ Take) × IsLeastFree s page) ⊎ ((request ≡ TakeAt page) × IsFree s page))
 
--- a run of pages is answered exactly if a run is asked for and this run is the first free run of
--- its length
-abbrev pub RunsAreFirst : Type 0
-RunsAreFirst =
+-- a run of pages is answered exactly if any run of a length is asked for and this run is the first
+-- free one, or if this run is asked for and free
+abbrev pub RunsAreFree : Type 0
+RunsAreFree =
     (s : PlainSet) (request : Request) (first : ℕ)
-    → (answer_to s request ≡ Run first) ↔ ((length : ℕ) × (request ≡ TakeRun length)
+    → (answer_to s request ≡ Run first)
+    ↔ (((length : ℕ) × (request ≡ TakeRun length)
     × IsFirstRun (complement s) 0 length (Some first))
+    ⊎ ((length : ℕ) × (request ≡ TakeRunAt first length) × IsRun (complement s) length first))
 
 -- Full is answered exactly if any page is asked for and all pages are taken
 abbrev pub FullExactlyIfAllAreTaken : Type 0
@@ -46,14 +48,17 @@ FullExactlyIfAllAreTaken =
     (s : PlainSet) (request : Request)
     → (answer_to s request ≡ Full) ↔ ((request ≡ Take) × (size s ≡ s.capacity))
 
--- NotFree is answered exactly if one page is asked for that is not a free page
+-- NotFree is answered exactly if one page is asked for that is not a free page, or one run that is
+-- not a free run
 abbrev pub NotFreeExactlyIfNotFree : Type 0
 NotFreeExactlyIfNotFree =
     (s : PlainSet) (request : Request)
     → (answer_to s request ≡ NotFree)
-    ↔ ((page : ℕ) × (request ≡ TakeAt page) × (IsFree s page → ⊥))
+    ↔ (((page : ℕ) × (request ≡ TakeAt page) × (IsFree s page → ⊥))
+    ⊎ ((first : ℕ) × (length : ℕ) × (request ≡ TakeRunAt first length)
+    × (IsRun (complement s) length first → ⊥)))
 
--- NoRun is answered exactly if a run of pages is asked for and no free run has that length
+-- NoRun is answered exactly if any run of a length is asked for and no free run has that length
 abbrev pub NoRunExactlyIfNoneIsFree : Type 0
 NoRunExactlyIfNoneIsFree =
     (s : PlainSet) (request : Request)
@@ -83,6 +88,7 @@ length_of Take = 1
 length_of (TakeAt page) = 1
 length_of (GiveBack page) = 1
 length_of (TakeRun length) = length
+length_of (TakeRunAt first length) = length
 length_of (GiveBackRun first length) = length
 
 -- whether an answer refuses the request
@@ -115,9 +121,9 @@ AnswersAreBelow =
     (s : PlainSet) (requests : List Request) (i : ℕ)
     → ((page : ℕ) → slice_get (request_answers s requests) i ≡ Some (Page page)
     → page < s.capacity)
-    × ((first length : ℕ) → slice_get requests i ≡ Some (TakeRun length)
+    × ((request : Request) (first : ℕ) → slice_get requests i ≡ Some request
     → slice_get (request_answers s requests) i ≡ Some (Run first)
-    → first + length ≤ s.capacity)
+    → first + length_of request ≤ s.capacity)
 
 -- how many pages an answer to a request hands out
 abbrev pub pages_handed_out : Request → Answer → ℕ
@@ -163,6 +169,7 @@ asks_back Take page = false
 asks_back (TakeAt p) page = false
 asks_back (GiveBack p) page = page == p
 asks_back (TakeRun length) page = false
+asks_back (TakeRunAt first length) page = false
 asks_back (GiveBackRun first length) page = is_in_span first (first + length) page
 
 -- answer i to a list of requests hands out the page, alone or in a run of pages
@@ -231,6 +238,7 @@ gives_back s Take page = false
 gives_back s (TakeAt p) page = false
 gives_back s (GiveBack p) page = (page == p) && is_taken s p
 gives_back s (TakeRun length) page = false
+gives_back s (TakeRunAt first length) page = false
 gives_back s (GiveBackRun first length) page =
     is_in_span first (first + length) page && is_run_taken s first length
 

@@ -14,7 +14,8 @@ ghost use Rattle.bittle.specs.Values.{set_in};
 ghost use Rattle.bit_pages.specs.PageLaws.{IsLeastFree};
 ghost use Rattle.bit_pages.specs.Pages.{is_taken, is_free_page, least_free, with_page, answer_to};
 ghost use Rattle.bit_pages.specs.Pages.{state_after};
-ghost use Rattle.bit_pages.specs.Pages.{first_free_run, is_run_taken, request_answers, final_state};
+ghost use Rattle.bit_pages.specs.Pages.{first_free_run, is_run_free, is_run_taken};
+ghost use Rattle.bit_pages.specs.Pages.{request_answers, final_state};
 ghost use Rattle.bittle_ext.specs.Runs.{IsFirstRun, IsRun};
 
 #[doc(hidden)]
@@ -37,6 +38,9 @@ pub enum Request {
     /// Asks for a run of neighbouring pages, by its length: answered by [`Answer::Run`] or
     /// [`Answer::NoRun`].
     TakeRun(u32),
+    /// Asks for a run of pages that you choose, by its first page and its length: answered by
+    /// [`Answer::Run`] or [`Answer::NotFree`].
+    TakeRunAt(u32, u32),
     /// Gives a run of pages back, by its first page and its length: answered by [`Answer::Given`]
     /// or [`Answer::NotTaken`].
     GiveBackRun(u32, u32),
@@ -49,7 +53,7 @@ pub enum Answer {
     Page(u32),
     /// All pages are taken.
     Full,
-    /// The page that was asked for is taken, or there is no such page.
+    /// The page that was asked for, or one page of the run, is taken, or there is no such page.
     NotFree,
     /// The page, or the run of pages, is free again.
     Given,
@@ -132,6 +136,8 @@ impl<B: BitsOwned> Pages<B> {
     /// Takes the least page that is free and returns it. If all pages are taken, the call changes
     /// nothing and returns `None`; with capacity 0 this is always so. The call reads the map up to
     /// the page, or nothing if all pages are taken.
+    ///
+    /// With `Pages::with_taken(0b1011u8)`, `take()` returns `Some(2)`, and then `Some(4)`.
     pub fn take(&mut self) -> Option<u32>
         ensures page { result ≡ least_free (set_in B.Shape B.Order.Endian self.old.map) }
         ensures found { let before = set_in B.Shape B.Order.Endian self.old.map in
@@ -193,7 +199,10 @@ impl<B: BitsOwned> Pages<B> {
     }
 
     /// Makes a page free again. If the page is not taken, the call changes nothing and returns
-    /// `Err`. A number past the last page is no page, and does not wrap.
+    /// `Err`. A number past the last page is no page, and does not wrap. It costs O(1).
+    ///
+    /// After `take()` returns `Some(0)`, `give_back(0)` returns `Ok(())` once and then
+    /// `Err(NotTaken)`.
     pub fn give_back(&mut self, page: u32) -> Result<(), NotTaken>
         ensures taken { IsOk result
             ↔ IsTrue (is_taken (set_in B.Shape B.Order.Endian self.old.map) page) }
@@ -225,6 +234,9 @@ impl<B: BitsOwned> Pages<B> {
     /// If `length` is at most the width of four words, the call reads each word once, up to the end
     /// of the run. If `length` is greater, each free run that is too short costs two searches of
     /// words.
+    ///
+    /// With `Pages::with_taken(0b0100_1001u8)`, `take_run(2)` returns `Some(1)` and then `Some(4)`;
+    /// `take_run(3)` returns `None`.
     pub fn take_run(&mut self, length: u32) -> Option<u32>
         ensures run { IsFirstRun (complement (set_in B.Shape B.Order.Endian self.old.map)) 0 length
             result }
@@ -252,6 +264,45 @@ impl<B: BitsOwned> Pages<B> {
         let first = self.map.take_first_zero_run(length)?;
         self.count += length;
         Some(first)
+    }
+
+    /// Takes the `length` pages from `first` on, and returns `true`. If one of these numbers is not
+    /// a free page, the call changes nothing and returns `false`. A number past the last page is no
+    /// page, and does not wrap. With `length` 0 nothing is taken, and the call returns `true`
+    /// exactly if `first` is at most the number of pages.
+    ///
+    /// The words of the run are read up to the first page that is taken. If there is none, they are
+    /// written.
+    ///
+    /// After `Pages::<u8>::new()`, `take_run_at(5, 3)` returns `true` once and then `false`;
+    /// `take_run_at(5, 4)` returns `false`.
+    pub fn take_run_at(&mut self, first: u32, length: u32) -> bool
+        ensures free { IsTrue result
+            ↔ IsRun (complement (set_in B.Shape B.Order.Endian self.old.map)) length first }
+        ensures within { IsTrue result → first + length ≤ B.type_capacity }
+        ensures taken { IsTrue result
+            → IsRun (set_in B.Shape B.Order.Endian self.new.map) length first }
+        ensures count { size (set_in B.Shape B.Order.Endian self.new.map)
+            ≡ size (set_in B.Shape B.Order.Endian self.old.map) + cond result length 0 }
+        ensures others { (page : ℕ) → is_in_span first (first + length) page ≡ false
+            → is_taken (set_in B.Shape B.Order.Endian self.new.map) page
+            ≡ is_taken (set_in B.Shape B.Order.Endian self.old.map) page }
+        ensures pages { let before = set_in B.Shape B.Order.Endian self.old.map in
+            set_in B.Shape B.Order.Endian self.new.map
+            ≡ cond result (with_span before first (first + length)) before }
+        ensures whole { result
+            ≡ is_run_free (set_in B.Shape B.Order.Endian self.old.map) first length }
+        ensures state { set_in B.Shape B.Order.Endian self.new.map
+            ≡ state_after (set_in B.Shape B.Order.Endian self.old.map)
+            (Request.TakeRunAt first length) }
+    {
+        if !self.is_run_free(first, length) {
+            return false;
+        }
+        let end = first + length;
+        self.map.set_range(first, end);
+        self.count += end - first;
+        true
     }
 
     /// Frees the `length` pages from `first` on. If one of these numbers is not a taken page, the
@@ -301,7 +352,27 @@ impl<B: BitsOwned> Pages<B> {
         end <= B::bits() && self.map.all_in_range(first, end)
     }
 
-    /// Returns whether the number is a page, and taken. A number past the last page is no page.
+    /// Returns whether each of the `length` numbers from `first` on is a page that is free. With
+    /// `length` 0 it returns `true` exactly if `first` is at most the number of pages. The words of
+    /// the run are read up to the first page that is taken.
+    ///
+    /// With `Pages::with_taken(0b0001_0000u8)`, `is_run_free(5, 3)` is `true`; `is_run_free(4, 2)`
+    /// and `is_run_free(6, 3)` are `false`.
+    pub fn is_run_free(&self, first: u32, length: u32) -> bool
+        ensures free { IsTrue result
+            ↔ IsRun (complement (set_in B.Shape B.Order.Endian self.now.map)) length first }
+        ensures within { IsTrue result → first + length ≤ B.type_capacity }
+        ensures whole { result
+            ≡ is_run_free (set_in B.Shape B.Order.Endian self.now.map) first length }
+    {
+        let Some(end) = first.checked_add(length) else {
+            return false;
+        };
+        end <= B::bits() && !self.map.any_in_range(first, end)
+    }
+
+    /// Returns whether the number is a page, and taken. A number past the last page is no page. It
+    /// costs O(1).
     // In the map, a number past the last page would wrap to a page.
     pub fn is_taken(&self, page: u32) -> bool
         ensures value { result ≡ is_taken (set_in B.Shape B.Order.Endian self.now.map) page }
@@ -370,6 +441,13 @@ impl<B: BitsOwned> Pages<B> {
                 Some(first) => Answer::Run(first),
                 None => Answer::NoRun,
             },
+            Request::TakeRunAt(first, length) => {
+                if self.take_run_at(first, length) {
+                    Answer::Run(first)
+                } else {
+                    Answer::NotFree
+                }
+            }
             Request::GiveBackRun(first, length) => match self.give_back_run(first, length) {
                 Ok(()) => Answer::Given,
                 Err(NotTaken) => Answer::NotTaken,
@@ -389,6 +467,11 @@ impl<B: BitsOwned> Pages<B> {
         ensures within { (i first n : ℕ) (d : Request) (e : Answer)
             → i < length answers.new
             → slice_index_or requests.now i d ≡ Request.TakeRun n
+            → slice_index_or answers.new i e ≡ Answer.Run first
+            → first + n ≤ B.type_capacity }
+        ensures within_at { (i at first n : ℕ) (d : Request) (e : Answer)
+            → i < length answers.new
+            → slice_index_or requests.now i d ≡ Request.TakeRunAt at n
             → slice_index_or answers.new i e ≡ Answer.Run first
             → first + n ≤ B.type_capacity }
         ensures pages { set_in B.Shape B.Order.Endian self.new.map

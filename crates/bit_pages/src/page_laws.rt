@@ -7,7 +7,7 @@ ghost use Rattle.bit_histories.specs.Histories.{AnswersAreOfTheirStates, CallsAn
 ghost use Rattle.bit_pages.specs.Pages.{answer_to, state_after, request_answers, final_state};
 ghost use Rattle.bit_pages.specs.PageLaws.{PagesAreFree, FullExactlyIfAllAreTaken};
 ghost use Rattle.bit_pages.specs.PageLaws.{NotFreeExactlyIfNotFree};
-ghost use Rattle.bit_pages.specs.PageLaws.{RunsAreFirst, NoRunExactlyIfNoneIsFree};
+ghost use Rattle.bit_pages.specs.PageLaws.{RunsAreFree, NoRunExactlyIfNoneIsFree};
 ghost use Rattle.bit_pages.specs.PageLaws.{GivenExactlyIfTaken, NotTakenExactlyIfNotTaken};
 ghost use Rattle.bit_pages.specs.PageLaws.{UnchangedExactlyIfRefused, PagesStay, AnswersAreBelow};
 ghost use Rattle.bit_pages.specs.PageLaws.{PagesComeBackBetween, TakenPagesComeBackFirst};
@@ -20,7 +20,8 @@ pub fn pages_are_free()
     ensures { PagesAreFree }
 {}
 
-/// States that `NotFree` is answered exactly if one page is asked for that is not a free page.
+/// States that `NotFree` is answered exactly if one page is asked for that is not a free page, or
+/// one run that is not a free run.
 pub fn not_free_exactly_if_not_free()
     ensures { NotFreeExactlyIfNotFree }
 {}
@@ -30,14 +31,14 @@ pub fn full_exactly_if_all_are_taken()
     ensures { FullExactlyIfAllAreTaken }
 {}
 
-/// States that a run of pages is answered exactly if a run is asked for and this run is the first
-/// free run of its length.
-pub fn runs_are_first()
-    ensures { RunsAreFirst }
+/// States that a run of pages is answered exactly if any run of a length is asked for and this run
+/// is the first free one, or if this run is asked for and free.
+pub fn runs_are_free()
+    ensures { RunsAreFree }
 {}
 
-/// States that `NoRun` is answered exactly if a run of pages is asked for and no free run has that
-/// length.
+/// States that `NoRun` is answered exactly if any run of a length is asked for and no free run has
+/// that length.
 pub fn no_run_exactly_if_none_is_free()
     ensures { NoRunExactlyIfNoneIsFree }
 {}
@@ -102,10 +103,11 @@ pub fn pages_are_outstanding()
     ensures { PagesAreOutstanding }
 {}
 
-/// States that calls of `take`, `take_at`, `give_back`, `take_run` and `give_back_run` in any
-/// sequence are a history exactly if they answer as the machine does on the list of their requests,
-/// and leave its last state. The clauses of each call say what it answers and which pages it
-/// leaves, so such calls are a history. So each law of lists of requests holds for them too.
+/// States that calls of `take`, `take_at`, `give_back`, `take_run`, `take_run_at` and
+/// `give_back_run` in any sequence are a history exactly if they answer as the machine does on the
+/// list of their requests, and leave its last state. The clauses of each call say what it answers
+/// and which pages it leaves, so such calls are a history. So each law of lists of requests holds
+/// for them too.
 pub fn calls_answer_as_lists()
     ensures { CallsAnswerAsLists answer_to state_after request_answers final_state }
 {}

@@ -6,7 +6,8 @@ ghost use Rattle.std.specs.Prelude.{Some, false, length, true};
 ghost use Rattle.std.specs.Prelude.{if◌then◌else◌, map, slice_set, [], ◌∷◌, List};
 ghost use Rattle.bit_histories.specs.Histories.{IsCall, IsHistory, total};
 ghost use Rattle.bit_pages.specs.PageLaws.{is_refused, pages_back, pages_handed_out};
-ghost use Rattle.bit_pages.specs.Pages.{answer_to, state_after, is_run_taken, is_taken, least_free};
+ghost use Rattle.bit_pages.specs.Pages.{answer_to, state_after, is_run_free, is_run_taken};
+ghost use Rattle.bit_pages.specs.Pages.{is_taken, least_free};
 ghost use Rattle.bit_pages.specs.Pages.{page_or_full, run_or_none};
 ghost use Rattle.bittle.specs.BitPatterns.{bit_set};
 ghost use Rattle.bittle.specs.Values.{set_in};
@@ -279,6 +280,68 @@ pub fn take_two_runs<B: BitsOwned>(pages: &mut Pages<B>, length: u32, other: u32
     pages.is_run_taken(first, length)
 }
 
+/// Takes a run of pages that is chosen, gives it back, and returns whether the allocator accepts
+/// the run. The result is always `true`, also if the run was not free.
+pub fn borrow_chosen_run<B: BitsOwned>(pages: &mut Pages<B>, first: u32, length: u32) -> bool
+    ensures { result ≡ true }
+{
+    !pages.take_run_at(first, length) || pages.give_back_run(first, length).is_ok()
+}
+
+/// Takes two runs of pages that are chosen. Returns whether the second is refused or each page of
+/// the first is taken afterwards. The result is always `true` if the first run was free.
+pub fn reserve_two_runs<B: BitsOwned>(
+    pages: &mut Pages<B>,
+    first: u32,
+    other: u32,
+    length: u32,
+) -> bool
+    ensures { result ≡ true }
+{
+    if !pages.is_run_free(first, length) {
+        return true;
+    }
+    pages.take_run_at(first, length);
+    let second = pages.take_run_at(other, length);
+    !second || pages.is_run_taken(first, length)
+}
+
+/// Takes the run of `length` pages from `first` on, and returns how many pages are taken
+/// afterwards. Returns `None` if the run is not free.
+pub fn reserve_run_and_count<B: BitsOwned>(
+    pages: &mut Pages<B>,
+    first: u32,
+    length: u32,
+) -> Option<u32>
+    ensures { IfSome result (λ count.
+        count ≡ size (set_in B.Shape B.Order.Endian pages.old.map) + length) }
+{
+    if !pages.take_run_at(first, length) {
+        return None;
+    }
+    Some(pages.taken())
+}
+
+/// Takes the run of `length` pages from `first` on, and writes `owner` to the entry of each of
+/// these pages in `owners`. Returns whether the run was free.
+pub fn reserve_run_for(
+    pages: &mut Pages<u8>,
+    owners: &mut [u32; 8],
+    first: u32,
+    length: u32,
+    owner: u32,
+) -> bool
+    ensures { result ≡ is_run_free (bit_set 8 pages.old.map) first length }
+{
+    if !pages.take_run_at(first, length) {
+        return false;
+    }
+    for page in first..first + length {
+        owners[page as usize] = owner;
+    }
+    true
+}
+
 /// Gives back a run of pages, and returns whether the page `other`, which was taken before, still
 /// is. The result is `true` if `other` is no page of the run.
 pub fn give_run_and_ask_another<B: BitsOwned>(
@@ -399,8 +462,10 @@ pub fn serve_and_end(
     ensures { result ≤ 8 }
 {
     pages.serve(requests, answers);
-    let Request::TakeRun(length) = requests[i] else {
-        return 0;
+    let length = match requests[i] {
+        Request::TakeRun(length) => length,
+        Request::TakeRunAt(_, length) => length,
+        _ => return 0,
     };
     let Answer::Run(first) = answers[i] else {
         return 0;
@@ -428,6 +493,16 @@ pub fn take_chosen<B: BitsOwned>(pages: &mut Pages<B>, page: u32) -> bool
         (set_in B.Shape B.Order.Endian pages.new.map) }
 {
     pages.take_at(page)
+}
+
+/// Takes the run of `length` pages from `first` on, and returns whether it was free. The clause
+/// says that the call, with what it returns, is a history of one call.
+pub fn take_chosen_run<B: BitsOwned>(pages: &mut Pages<B>, first: u32, length: u32) -> bool
+    ensures { IsHistory answer_to state_after (set_in B.Shape B.Order.Endian pages.old.map)
+        ((Request.TakeRunAt first length, if result then Answer.Run first else Answer.NotFree)
+        ∷ []) (set_in B.Shape B.Order.Endian pages.new.map) }
+{
+    pages.take_run_at(first, length)
 }
 
 /// Gives back a page, and takes the least free page if it was taken. Returns whether this page was

@@ -31,10 +31,10 @@ fn map_with_three_free() -> Map
 
 /// Lets an allocator serve `requests`, and returns the answers. At first the pages whose bits are
 /// set in `map` are taken.
-fn serve<B: BitsOwned>(map: B, requests: &[Request; 14]) -> [Answer; 14]
+fn serve<B: BitsOwned>(map: B, requests: &[Request; 16]) -> [Answer; 16]
     requires { IsTrue B.indexable }
 {
-    let mut answers = [Answer::Full; 14];
+    let mut answers = [Answer::Full; 16];
     Pages::with_taken(map).serve(requests, &mut answers);
     answers
 }
@@ -46,6 +46,9 @@ fn print(rt: &HostRuntime, request: Request, answer: Answer) -> io::Result<()> {
         Request::TakeAt(page) => print!(rt; "take page {page}: ")?,
         Request::GiveBack(page) => print!(rt; "give page {page} back: ")?,
         Request::TakeRun(length) => print!(rt; "take a run of {length} pages: ")?,
+        Request::TakeRunAt(first, length) => {
+            print!(rt; "take the {length} pages from {first} on: ")?
+        }
         Request::GiveBackRun(first, length) => {
             print!(rt; "give a run of {length} pages from {first} on back: ")?
         }
@@ -77,9 +80,11 @@ fn main(rt: HostRuntime) -> io::Result<()> {
         Request::TakeRun(2),
         Request::TakeAt(131_072),
         Request::TakeAt(131_072),
+        Request::GiveBackRun(131_070, 2),
+        Request::TakeRunAt(131_070, 2),
     ];
     let answers = serve(map_with_three_free(), &requests);
-    for i in 0..14usize {
+    for i in 0..16usize {
         print(&rt, requests[i], answers[i])?;
     }
     Ok(())

@@ -28,6 +28,12 @@ fn requests_are_named_with_their_page(rt: HostRuntime) -> Result<(), Fail> {
     reads(
         &rt,
         rt.alloc(),
+        &Request::TakeRunAt(2, 3),
+        "TakeRunAt(2, 3)",
+    )?;
+    reads(
+        &rt,
+        rt.alloc(),
         &Request::GiveBackRun(4, 2),
         "GiveBackRun(4, 2)",
     )?;

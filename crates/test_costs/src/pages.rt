@@ -75,7 +75,8 @@ fn two_allocators_are_compared_word_by_word(rt: HostRuntime) {
 }
 
 // Takes pages 451 and 508, the only free ones of 768 pages. Then gives back pages 100 to 199, which
-// lie in words 1 to 3, and page 451. Then page 451 is not taken, and there is no page 768.
+// lie in words 1 to 3, and takes them again; a second time this is refused at the first word. Then
+// gives back page 451. Then page 451 is not taken, and there is no page 768.
 fn change_many<B: BitsOwned>(rt: &impl Abort, most: B, asked: &Asked)
     requires { Fits B.indexable B.type_capacity }
 {
@@ -87,6 +88,11 @@ fn change_many<B: BitsOwned>(rt: &impl Abort, most: B, asked: &Asked)
     costs!(rt; asked, pages.take(), None, 0, 0);
     costs!(rt; asked, pages.is_run_taken(100, 100), true, 3, 0);
     costs!(rt; asked, pages.give_back_run(100, 100).is_ok(), true, 3, 3);
+    costs!(rt; asked, pages.is_run_free(100, 100), true, 3, 0);
+    costs!(rt; asked, pages.take_run_at(100, 100), true, 3, 3);
+    holds!(*rt; !pages.take_run_at(100, 100) && !pages.is_run_free(100, 100));
+    counts!(*rt; asked, 2, 0);
+    asked.restart();
     costs!(rt; asked, pages.give_back(451).is_ok(), true, 0, 2);
     costs!(rt; asked, pages.is_taken(451), false, 0, 1);
     costs!(rt; asked, pages.give_back(451).is_err(), true, 0, 1);

@@ -33,9 +33,34 @@ fn chosen_pages(rt: HostRuntime) {
 }
 
 #[test]
+fn chosen_runs(rt: HostRuntime) {
+    let mut pages = Pages::with_taken(0b0000_0001u8);
+    same!(rt; (pages.is_run_free(5, 3), pages.is_run_free(0, 2)), (true, false));
+    same!(rt; (pages.take_run_at(5, 3), pages.take_run_at(5, 3)), (true, false));
+    same!(rt; (pages.take_run_at(4, 2), pages.take_run_at(1, 3), pages.taken()), (false, true, 7));
+    same!(rt; (pages.take(), pages.give_back_run(5, 2)), (Some(4), Ok(())));
+    same!(rt; (pages.is_run_free(5, 2), pages.is_run_free(4, 2)), (true, false));
+    same!(rt; (pages.take_run_at(6, 2), pages.take_run_at(6, 1)), (false, true));
+    same!(rt; (pages.taken(), pages.into_map()), (7, 0b1101_1111));
+}
+
+#[test]
+fn chosen_runs_past_the_last_page(rt: HostRuntime) {
+    let mut pages = Pages::<u8>::new();
+    same!(rt; (pages.take_run_at(7, 2), pages.take_run_at(8, 1)), (false, false));
+    same!(rt; (pages.is_run_free(1, 4_294_967_295), pages.is_run_free(0, 9)), (false, false));
+    same!(rt; (pages.take_run_at(4_294_967_295, 1), pages.taken()), (false, 0));
+    same!(rt; (pages.take_run_at(8, 0), pages.take_run_at(9, 0)), (true, false));
+    same!(rt; (pages.is_run_free(8, 0), pages.is_run_free(9, 0)), (true, false));
+    same!(rt; (pages.take_run_at(0, 8), pages.take_run_at(3, 0), pages.taken()), (true, true, 8));
+    let mut none = Pages::<[u8; 0]>::new();
+    same!(rt; (none.take_run_at(0, 0), none.take_run_at(0, 1)), (true, false));
+}
+
+#[test]
 fn requests_of_pages_and_runs(rt: HostRuntime) {
     let mut pages = Pages::with_taken(0b0100_1001u8);
-    let mut answers = [Answer::Full; 13];
+    let mut answers = [Answer::Full; 16];
     let requests = [
         Request::TakeRun(3),
         Request::TakeRun(2),
@@ -50,6 +75,9 @@ fn requests_of_pages_and_runs(rt: HostRuntime) {
         Request::GiveBackRun(8, 0),
         Request::GiveBackRun(9, 0),
         Request::GiveBackRun(4_294_967_295, 2),
+        Request::TakeRunAt(1, 3),
+        Request::TakeRunAt(1, 2),
+        Request::TakeRunAt(7, 2),
     ];
     pages.serve(&requests, &mut answers);
     let expected = [
@@ -66,10 +94,13 @@ fn requests_of_pages_and_runs(rt: HostRuntime) {
         Answer::Given,
         Answer::NotTaken,
         Answer::NotTaken,
+        Answer::NotFree,
+        Answer::Run(1),
+        Answer::NotFree,
     ];
     same!(rt; answers, expected);
-    same!(rt; pages.taken(), 4);
-    same!(rt; pages.into_map(), 0b0101_1001);
+    same!(rt; pages.taken(), 6);
+    same!(rt; pages.into_map(), 0b0101_1111);
 }
 
 #[test]
@@ -160,6 +191,13 @@ fn answer(taken: &mut [bool; 16], request: Request) -> Answer {
             }
             None => Answer::NoRun,
         },
+        Request::TakeRunAt(first, length) => {
+            if 16 < first.saturating_add(length) || !all_are(taken, first, length, false) {
+                return Answer::NotFree;
+            }
+            assign(taken, first, length, true);
+            Answer::Run(first)
+        }
         Request::GiveBack(page) => give_back(taken, page, 1),
         Request::GiveBackRun(first, length) => give_back(taken, first, length),
     }
@@ -193,7 +231,8 @@ fn drawn_requests<B: BitsOwned>(seed: u64) -> bool
             0..=1 => Request::Take,
             2 => Request::GiveBack(first),
             3..=4 => Request::TakeRun(length),
-            5..=6 => Request::TakeAt(first),
+            5 => Request::TakeAt(first),
+            6 => Request::TakeRunAt(first, length % 4),
             _ => Request::GiveBackRun(first, length % 3),
         };
         expected[i] = answer(&mut taken, requests[i]);

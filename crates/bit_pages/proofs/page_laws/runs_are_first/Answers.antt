@@ -1,5 +1,0 @@
-use Rattle.bit_pages.proofs.PageLaws.{run_is_first}
-use Rattle.bit_pages.proofs.page_laws.runs_are_first.Goals as goal
-
-pub returns : goal.returns
-returns c = run_is_first
