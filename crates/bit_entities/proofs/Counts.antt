@@ -6,13 +6,14 @@ use Rattle.bittle.specs.PlainSet.{PlainSet, complement, size, with_index}
 use Rattle.bittle.specs.Searches.{NoneIn}
 use Rattle.bittle.proofs.CallerChanges.{size_with, size_without}
 use Rattle.bittle.proofs.CallerSets.{size_at_most, size_whole}
-use Rattle.bit_entities.specs.Entities.{World, IsWorld, least_dead, may_have, without_entity}
+use Rattle.bit_entities.specs.Entities.{World, IsWorld, least_dead, may_have, without_components}
+use Rattle.bit_entities.specs.Entities.{without_entity}
 use Rattle.bit_entities.specs.Entities.{with_component, spawned_or_full, with_spawned, answer_to}
 use Rattle.bit_entities.specs.Entities.{world_after, event_answers, final_world}
 use Rattle.bit_histories.specs.Histories.{total}
 use Rattle.bit_entities.specs.EntityLaws.{spawned_by, removed_by}
 use Rattle.bit_entities.specs.declared.Event.{Event}
-use Rattle.bit_entities.specs.declared.Event.TheVariants.{Spawn, Remove, Attach, Detach}
+use Rattle.bit_entities.specs.declared.Event.TheVariants.{Spawn, Remove, Attach, Detach, DetachAll}
 use Rattle.bit_entities.specs.declared.Answer.TheVariants.{Done, Refused}
 use Rattle.bit_entities.proofs.EntityLaws.{in_it, one_stays}
 use Rattle.bit_entities.proofs.LeastDead.{listed_first, outside}
@@ -67,6 +68,13 @@ one_counted w (Detach entity component) is = by (may_have w entity component)
     by : (b : Bool) → size (cond b (with_component w entity component false) w).alive
         + removed_by (Detach entity component) (cond b Done Refused)
         ≡ size w.alive + spawned_by (Detach entity component) (cond b Done Refused)
+    by true = refl
+    by false = refl
+one_counted w (DetachAll entity) is = by (w.alive.has entity)
+  where
+    by : (b : Bool) → size (cond b (without_components w entity) w).alive
+        + removed_by (DetachAll entity) (cond b Done Refused)
+        ≡ size w.alive + spawned_by (DetachAll entity) (cond b Done Refused)
     by true = refl
     by false = refl
 

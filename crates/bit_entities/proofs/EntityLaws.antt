@@ -6,17 +6,18 @@ use Rattle.bittle.specs.PlainSet.{PlainSet, complement, empty_set}
 use Rattle.bittle.specs.Searches.{IsFirstIn}
 use Rattle.bittle.proofs.CallerSets.{complement_within}
 use Rattle.bit_entities.specs.Entities.{World, IsWorld, empty_world, least_dead, may_have}
-use Rattle.bit_entities.specs.Entities.{with_living, without_entity, with_component}
+use Rattle.bit_entities.specs.Entities.{with_living, without_components, without_entity}
+use Rattle.bit_entities.specs.Entities.{with_component}
 use Rattle.bit_entities.specs.Entities.{spawned_or_full, with_spawned, answer_to, world_after}
 use Rattle.bit_entities.specs.Entities.{final_world}
 use Rattle.bit_entities.specs.EntityLaws.{IsLeastDead, IsNew, IsDoneExactlyIf}
 use Rattle.bit_entities.specs.declared.Event.{Event}
-use Rattle.bit_entities.specs.declared.Event.TheVariants.{Spawn, Remove, Attach, Detach}
+use Rattle.bit_entities.specs.declared.Event.TheVariants.{Spawn, Remove, Attach, Detach, DetachAll}
 use Rattle.bit_entities.specs.declared.Answer.TheVariants.{Spawned, Full, Done, Refused}
 use Rattle.bit_entities.proofs.LeastDead.{listed_first, outside}
 use Rattle.bit_entities.proofs.Masks.{number_now}
 use Rattle.bit_entities.proofs.Worlds.{may_parts, bare_is_world, dead_lacks, living_is_world}
-use Rattle.bit_entities.proofs.Worlds.{going_is_world, having_is_world}
+use Rattle.bit_entities.proofs.Worlds.{losing_all_is_world, going_is_world, having_is_world}
 
 -- `IsWorld` still holds after a change of a component
 changed_is_world : (w : World) (entity component : ℕ) (is : Bool) → IsWorld w → IsWorld
@@ -43,6 +44,11 @@ one_stays w (Remove entity) is = by (w.alive.has entity)
     by false = is
 one_stays w (Attach entity component) is = changed_is_world w entity component true is
 one_stays w (Detach entity component) is = changed_is_world w entity component false is
+one_stays w (DetachAll entity) is = by (w.alive.has entity)
+  where
+    by : (b : Bool) → IsWorld (cond b (without_components w entity) w)
+    by true = losing_all_is_world w entity is
+    by false = is
 
 -- `IsWorld` still holds after every list of events
 pub stay_worlds : (w : World) (events : List Event) → IsWorld w → IsWorld (final_world w events)
@@ -86,6 +92,7 @@ spawned_is w (Attach other component) entity e =
     absurd (no_spawn (may_have w other component) entity e)
 spawned_is w (Detach other component) entity e =
     absurd (no_spawn (may_have w other component) entity e)
+spawned_is w (DetachAll other) entity e = absurd (no_spawn (w.alive.has other) entity e)
 
 -- a number below the capacity that is not in the complement is a member
 pub in_it : (s : PlainSet) (k : ℕ) → k < s.capacity → (complement s).has k ≡ false →
@@ -138,6 +145,8 @@ spawned_iff w (Detach other component) entity = (
   λ e. absurd (no_spawn (may_have w other component) entity e),
   λ all. let is = all.0 in absurd (cc),
 )
+spawned_iff w (DetachAll other) entity =
+    (λ e. absurd (no_spawn (w.alive.has other) entity e), λ all. let is = all.0 in absurd (cc))
 
 pub spawned_new : (w : World) (event : Event) (entity : ℕ) → IsWorld w →
     answer_to w event ≡ Spawned entity → IsNew w event (world_after w event) entity
@@ -176,6 +185,8 @@ full_iff_all w (Attach entity component) =
     (λ e. absurd (not_full (may_have w entity component) e), λ all. let is = all.0 in absurd (cc))
 full_iff_all w (Detach entity component) =
     (λ e. absurd (not_full (may_have w entity component) e), λ all. let is = all.0 in absurd (cc))
+full_iff_all w (DetachAll entity) =
+    (λ e. absurd (not_full (w.alive.has entity) e), λ all. let is = all.0 in absurd (cc))
 
 -- if the answer is `Refused` or `Full`, the world is as it was
 not_done : (b : Bool) (t w : World) →
@@ -198,6 +209,8 @@ refused_nothing w (Attach entity component) h =
     not_done (may_have w entity component) (with_component w entity component true) w h
 refused_nothing w (Detach entity component) h =
     not_done (may_have w entity component) (with_component w entity component false) w h
+refused_nothing w (DetachAll entity) h =
+    not_done (w.alive.has entity) (without_components w entity) w h
 
 -- `Done` is answered if the test is true, and else `Refused`
 is_done : (b : Bool) → (cond b Done Refused ≡ Done) ↔ (b ≡ true)
@@ -214,10 +227,12 @@ pub done_if : (w : World) (entity component : ℕ) →
     IsDoneExactlyIf w (Remove entity) lives
     × IsDoneExactlyIf w (Attach entity component) (lives × there)
     × IsDoneExactlyIf w (Detach entity component) (lives × there)
+    × IsDoneExactlyIf w (DetachAll entity) lives
 done_if w entity component = (
   record { done = is_done (w.alive.has entity); refused = is_refused (w.alive.has entity) },
   record { done = both; refused = is_refused (may_have w entity component) },
   record { done = both; refused = is_refused (may_have w entity component) },
+  record { done = is_done (w.alive.has entity); refused = is_refused (w.alive.has entity) },
 )
   where
     both : (cond (may_have w entity component) Done Refused ≡ Done)

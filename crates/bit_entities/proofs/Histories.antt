@@ -6,12 +6,13 @@ use Rattle.std.proofs.Common.{arith}
 use Rattle.std.specs.Prelude.{slice_get}
 use Rattle.std.proofs.lemmas.Bool.{cases_eq, cases_Bool, eq-eqb, ne_eqb, eqb-true, lt-ltb}
 use Rattle.std.proofs.lemmas.Bool.{and_parts, true≢false}
-use Rattle.bit_entities.specs.Entities.{World, IsWorld, least_dead, may_have, without_entity}
+use Rattle.bit_entities.specs.Entities.{World, IsWorld, least_dead, may_have}
+use Rattle.bit_entities.specs.Entities.{without_components, without_entity}
 use Rattle.bit_entities.specs.Entities.{with_component, spawned_or_full, with_spawned, answer_to}
 use Rattle.bit_entities.specs.Entities.{world_after, event_answers, final_world}
 use Rattle.bit_entities.specs.EntityLaws.{IsKeptFrom, IsRemoved, LivesFrom}
 use Rattle.bit_entities.specs.declared.Event.{Event}
-use Rattle.bit_entities.specs.declared.Event.TheVariants.{Spawn, Remove, Attach, Detach}
+use Rattle.bit_entities.specs.declared.Event.TheVariants.{Spawn, Remove, Attach, Detach, DetachAll}
 use Rattle.bit_entities.specs.declared.Answer.TheVariants.{Spawned, Done, Refused}
 use Rattle.bit_entities.proofs.EntityLaws.{one_stays, spawned_is}
 use Rattle.bit_entities.proofs.LeastDead.{outside}
@@ -48,6 +49,11 @@ lives_on w (Detach other component) entity lives = inl (by (may_have w other com
   where
     by : (b : Bool) →
         (cond b (with_component w other component false) w).alive.has entity ≡ true
+    by true = lives
+    by false = lives
+lives_on w (DetachAll other) entity lives = inl (by (w.alive.has other))
+  where
+    by : (b : Bool) → (cond b (without_components w other) w).alive.has entity ≡ true
     by true = lives
     by false = lives
 
@@ -124,6 +130,7 @@ module _ (entity : ℕ) where
   removes_or_not Spawn = inr (λ e. cc)
   removes_or_not (Attach other another) = inr (λ e. cc)
   removes_or_not (Detach other another) = inr (λ e. cc)
+  removes_or_not (DetachAll other) = inr (λ e. cc)
   removes_or_not (Remove other) = elim (cases_eq other entity) [
     | inl same ↦ inl (ap Remove same)
     | inr apart ↦ inr (λ e. apart (cc))
@@ -162,6 +169,13 @@ module _ (entity : ℕ) where
     where
       by : (b : Bool) →
           (cond b (with_component w other another false) w).alive.has entity ≡ true →
+          w.alive.has entity ≡ true
+      by true e = e
+      by false e = e
+  begun w (DetachAll other) dead lives =
+      absurd (true≢false (sym (by (w.alive.has other) lives) ∙ dead))
+    where
+      by : (b : Bool) → (cond b (without_components w other) w).alive.has entity ≡ true →
           w.alive.has entity ≡ true
       by true e = e
       by false e = e
@@ -252,28 +266,35 @@ module _ (entity : ℕ) where
       from (inr spawned) = lives_from w events spawned.0 spawned.1
 
 module _ (entity component : ℕ) where
-  -- the event removes the entity, or detaches the component from it
+  -- the event removes the entity, or detaches the component or all components from it
   abbrev Takes : Event → Type 0
-  Takes event = (event ≡ Remove entity) ⊎ (event ≡ Detach entity component)
+  Takes event = (event ≡ Remove entity)
+      ⊎ ((event ≡ Detach entity component) ⊎ (event ≡ DetachAll entity))
 
   abbrev Leaves : Event → Type 0
   Leaves event = (event ≢ Remove entity) × (event ≢ Detach entity component)
+      × (event ≢ DetachAll entity)
 
   takes_or_leaves : (event : Event) → Takes event ⊎ Leaves event
-  takes_or_leaves Spawn = inr (λ e. cc, λ e. cc)
-  takes_or_leaves (Attach other another) = inr (λ e. cc, λ e. cc)
+  takes_or_leaves Spawn = inr (λ e. cc, λ e. cc, λ e. cc)
+  takes_or_leaves (Attach other another) = inr (λ e. cc, λ e. cc, λ e. cc)
   takes_or_leaves (Remove other) = elim (cases_eq other entity) [
     | inl same ↦ inl (inl (ap Remove same))
-    | inr apart ↦ inr (λ e. apart (cc), λ e. cc)
+    | inr apart ↦ inr (λ e. apart (cc), λ e. cc, λ e. cc)
   ]
   takes_or_leaves (Detach other another) =
       elim (cases_eq other entity) [
-        | inr apart ↦ inr (λ e. cc, λ e. apart (cc))
+        | inr apart ↦ inr (λ e. cc, λ e. apart (cc), λ e. cc)
         | inl same ↦ elim (cases_eq another component) [
-          | inl one ↦ inl (inr (ap (λ k. Detach k another) same ∙ ap (Detach entity) one))
-          | inr apart ↦ inr (λ e. cc, λ e. apart (cc))
+          | inl one ↦
+              inl (inr (inl (ap (λ k. Detach k another) same ∙ ap (Detach entity) one)))
+          | inr apart ↦ inr (λ e. cc, λ e. apart (cc), λ e. cc)
         ]
       ]
+  takes_or_leaves (DetachAll other) = elim (cases_eq other entity) [
+    | inl same ↦ inl (inr (inr (ap DetachAll same)))
+    | inr apart ↦ inr (λ e. cc, λ e. cc, λ e. apart (cc))
+  ]
 
   -- after an event that takes the component, the entity does not have it
   taken : (w : World) (event : Event) → IsWorld w → Takes event →
@@ -285,7 +306,14 @@ module _ (entity component : ℕ) where
           (cond b (without_entity w entity) w).has entity component ≡ false
       by true l = ap (λ t. cond t false (w.has entity component)) (eq-eqb entity entity refl)
       by false l = dead_lacks w entity is l component
-  taken w event is (inr e) =
+  taken w event is (inr (inr e)) =
+      ap (λ v. (world_after w v).has entity component) e ∙ by (w.alive.has entity) refl
+    where
+      by : (b : Bool) → w.alive.has entity ≡ b →
+          (cond b (without_components w entity) w).has entity component ≡ false
+      by true l = ap (λ t. cond t false (w.has entity component)) (eq-eqb entity entity refl)
+      by false l = dead_lacks w entity is l component
+  taken w event is (inr (inl e)) =
       ap (λ v. (world_after w v).has entity component) e
       ∙ by (may_have w entity component) refl (cases_Bool (w.has entity component))
     where
@@ -326,6 +354,13 @@ module _ (entity component : ℕ) where
           w.has entity component ≡ true
       by true e =
           (left ((entity == other) && (component == another)) (w.has entity component) e).1
+      by false e = e
+  given w (DetachAll other) lacks has =
+      absurd (true≢false (sym (by (w.alive.has other) has) ∙ lacks))
+    where
+      by : (b : Bool) → (cond b (without_components w other) w).has entity component ≡ true →
+          w.has entity component ≡ true
+      by true e = (left (entity == other) (w.has entity component) e).1
       by false e = e
   given w (Attach other another) lacks has = by (may_have w other another) has
     where
@@ -385,10 +420,19 @@ module _ (entity component : ℕ) where
           (cond b (with_component w other another false) w).has entity component ≡ true
       by true = same (entity == other) (component == another) (w.has entity component) apart has
       by false = has
+  kept w (DetachAll other) has leaves = by (w.alive.has other)
+    where
+      apart : entity ≢ other
+      apart e = leaves.2 (ap DetachAll (sym e))
+
+      by : (b : Bool) → (cond b (without_components w other) w).has entity component ≡ true
+      by true = ap (λ t. cond t false (w.has entity component)) (ne_eqb entity other apart) ∙ has
+      by false = has
 
   abbrev NoneTakes : List Event → Type 0
   NoneTakes events = (j : ℕ) → (slice_get events j ≢ Some (Remove entity))
       × (slice_get events j ≢ Some (Detach entity component))
+      × (slice_get events j ≢ Some (DetachAll entity))
 
   -- an entity keeps a component to the end of a list in which no event takes it
   kept_to_end : (w : World) (events : List Event) → w.has entity component ≡ true →
@@ -397,7 +441,11 @@ module _ (entity component : ℕ) where
   kept_to_end w [] has none = has
   kept_to_end w (event ∷ events) has none =
       kept_to_end (world_after w event) events
-      (kept w event has (λ e. (none zero).0 (ap Some e), λ e. (none zero).1 (ap Some e)))
+      (kept w event has (
+        λ e. (none zero).0 (ap Some e),
+        λ e. (none zero).1 (ap Some e),
+        λ e. (none zero).2 (ap Some e),
+      ))
       (λ j. none (suc j))
 
   kept_from : (w : World) (events : List Event) (k : ℕ) →
@@ -408,7 +456,11 @@ module _ (entity component : ℕ) where
       kept_to_end (world_after w event) events
       (ap (λ v. (world_after w v).has entity component) is
       ∙ by (may_have w entity component) (sym (ap (answer_to w) is) ∙ done))
-      (λ j. (from.not_removed (suc j) (omega arith), from.not_detached (suc j) (omega arith)))
+      (λ j. (
+        from.not_removed (suc j) (omega arith),
+        from.not_detached (suc j) (omega arith),
+        from.not_all_detached (suc j) (omega arith),
+      ))
     where
       is : event ≡ Attach entity component
       is = let asked = from.asked in cc
@@ -426,6 +478,7 @@ module _ (entity component : ℕ) where
         done = from.done;
         not_removed = λ j h. from.not_removed (suc j) (omega (arith, h));
         not_detached = λ j h. from.not_detached (suc j) (omega (arith, h));
+        not_all_detached = λ j h. from.not_all_detached (suc j) (omega (arith, h));
       })
 
   -- if an entity has a component at the end, it had it at first or was given it, and no event took
@@ -435,7 +488,7 @@ module _ (entity component : ℕ) where
       ((w.has entity component ≡ true) × NoneTakes events)
       ⊎ ((k : ℕ) × IsKeptFrom w events entity component k)
   unfolding final_world event_answers
-  had_or_given w [] is has = inl (has, λ j. (λ e. absurd (cc), λ e. absurd (cc)))
+  had_or_given w [] is has = inl (has, λ j. (λ e. absurd (cc), λ e. absurd (cc), λ e. absurd (cc)))
   had_or_given w (event ∷ events) is has =
       by (had_or_given (world_after w event) events (one_stays w event is) has)
       (takes_or_leaves event) (cases_Bool (w.has entity component))
@@ -451,7 +504,7 @@ module _ (entity component : ℕ) where
       rest v none (suc j) h = none j
 
       none_yet : Leaves event → NoneTakes events → NoneTakes (event ∷ events)
-      none_yet leaves none zero = (λ e. leaves.0 (cc), λ e. leaves.1 (cc))
+      none_yet leaves none zero = (λ e. leaves.0 (cc), λ e. leaves.1 (cc), λ e. leaves.2 (cc))
       none_yet leaves none (suc j) = none j
 
       by : (((world_after w event).has entity component ≡ true) × NoneTakes events)
@@ -467,6 +520,7 @@ module _ (entity component : ℕ) where
           done = from.done;
           not_removed = after (Remove entity) k from.not_removed;
           not_detached = after (Detach entity component) k from.not_detached;
+          not_all_detached = after (DetachAll entity) k from.not_all_detached;
         },
       )
       by (inl now) (inl takes) _ = absurd (true≢false (sym now.0 ∙ taken w event is takes))
@@ -479,6 +533,7 @@ module _ (entity component : ℕ) where
               done = ap Some gift.1;
               not_removed = rest (Remove entity) (λ j. (now.1 j).0);
               not_detached = rest (Detach entity component) (λ j. (now.1 j).1);
+              not_all_detached = rest (DetachAll entity) (λ j. (now.1 j).2);
             },
           )
 
@@ -486,7 +541,8 @@ pub kept_iff : (w : World) (events : List Event) (entity component : ℕ) → Is
     ((final_world w events).has entity component ≡ true)
     ↔ (((w.has entity component ≡ true)
     × ((j : ℕ) → (slice_get events j ≢ Some (Remove entity))
-    × (slice_get events j ≢ Some (Detach entity component))))
+    × (slice_get events j ≢ Some (Detach entity component))
+    × (slice_get events j ≢ Some (DetachAll entity))))
     ⊎ ((k : ℕ) × IsKeptFrom w events entity component k))
 kept_iff w events entity component is = (had_or_given entity component w events is, from)
   where

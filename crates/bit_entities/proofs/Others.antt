@@ -3,12 +3,13 @@ use Rattle.std.proofs.Common.{◌≡◌, ◌≢◌, ℕ, ◌⊎◌, Bool, true, 
 use Rattle.std.proofs.Common.{None, List, [], ◌∷◌, inl, inr, refl, sym, ap, ◌∙◌, subst}
 use Rattle.std.proofs.lemmas.Bool.{eq-eqb, ne_eqb}
 use Rattle.bittle.specs.PlainSet.{PlainSet}
-use Rattle.bit_entities.specs.Entities.{World, least_dead, may_have, with_number, without_entity}
+use Rattle.bit_entities.specs.Entities.{World, least_dead, may_have, with_number}
+use Rattle.bit_entities.specs.Entities.{without_components, without_entity}
 use Rattle.bit_entities.specs.Entities.{with_component, spawned_or_full, with_spawned, answer_to}
 use Rattle.bit_entities.specs.Entities.{world_after, final_world}
 use Rattle.bit_entities.specs.EntityLaws.{names, IsUnchanged}
 use Rattle.bit_entities.specs.declared.Event.{Event}
-use Rattle.bit_entities.specs.declared.Event.TheVariants.{Spawn, Remove, Attach, Detach}
+use Rattle.bit_entities.specs.declared.Event.TheVariants.{Spawn, Remove, Attach, Detach, DetachAll}
 use Rattle.bit_entities.specs.declared.Answer.TheVariants.{Spawned}
 
 -- `with_number` changes the test of no other number
@@ -22,16 +23,17 @@ pub other_lives : (w t : World) (entity : ℕ) → t ≡ without_entity w entity
     k ≢ entity → t.alive.has k ≡ w.alive.has k
 other_lives w t entity e = number_other w.alive entity false t.alive (ap (λ u. u.alive) e)
 
-pub other_keeps : (w t : World) (entity : ℕ) → t ≡ without_entity w entity → (k c : ℕ) →
-    k ≢ entity → t.has k c ≡ w.has k c
-other_keeps w t entity e k c apart =
-    ap (λ u. u.has k c) e ∙ ap (λ b. cond b false (w.has k c)) (ne_eqb k entity apart)
+-- if an entity lost all its components, no other entity changed
+pub other_keeps : (w : World) (has : ℕ → ℕ → Bool) (entity : ℕ) →
+    has ≡ (without_components w entity).has → (k c : ℕ) → k ≢ entity → has k c ≡ w.has k c
+other_keeps w has entity e k c apart =
+    ap (λ h. h k c) e ∙ ap (λ b. cond b false (w.has k c)) (ne_eqb k entity apart)
 
--- a removed entity has no component
-pub keeps_nothing : (w t : World) (entity : ℕ) → t ≡ without_entity w entity → (c : ℕ) →
-    t.has entity c ≡ false
-keeps_nothing w t entity e c =
-    ap (λ u. u.has entity c) e ∙ ap (λ b. cond b false (w.has entity c)) (eq-eqb entity entity refl)
+-- it has no component
+pub keeps_nothing : (w : World) (has : ℕ → ℕ → Bool) (entity : ℕ) →
+    has ≡ (without_components w entity).has → (c : ℕ) → has entity c ≡ false
+keeps_nothing w has entity e c = ap (λ h. h entity c) e
+    ∙ ap (λ b. cond b false (w.has entity c)) (eq-eqb entity entity refl)
 
 -- a change of a component of one entity changes no other entity, and no other component
 module _ (w t : World) (entity component : ℕ) (is : Bool)
@@ -98,8 +100,16 @@ unchanged w (Attach entity component) other named apart =
     component_elsewhere w entity component other true named (may_have w entity component)
 unchanged w (Detach entity component) other named apart =
     component_elsewhere w entity component other false named (may_have w entity component)
+unchanged w (DetachAll entity) other named apart = by (w.alive.has entity)
+  where
+    by : (b : Bool) → IsUnchanged w (cond b (without_components w entity) w) other
+    by false = record { life = refl; components = λ c. refl }
+    by true = record {
+      life = refl;
+      components = λ c. ap (λ b. cond b false (w.has other c)) named;
+    }
 
--- an event that gives or takes a component changes no other component, and no life
+-- an event that gives or takes one component changes no other component, and no life
 pub components_stay : (w : World) (event : Event) (entity component : ℕ) →
     (event ≡ Attach entity component) ⊎ (event ≡ Detach entity component) →
     ((world_after w event).alive ≡ w.alive) × ((each other : ℕ) → other ≢ component →
@@ -130,6 +140,8 @@ one_keeps_sizes w (Attach entity component) =
 one_keeps_sizes w (Detach entity component) =
     same_sizes w (with_component w entity component false)
     (may_have w entity component) (refl, refl)
+one_keeps_sizes w (DetachAll entity) =
+    same_sizes w (without_components w entity) (w.alive.has entity) (refl, refl)
 
 -- no list of events changes how many numbers and how many components there are
 pub sizes_stay : (w : World) (events : List Event) →

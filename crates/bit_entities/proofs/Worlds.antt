@@ -9,7 +9,7 @@ use Rattle.std.proofs.lemmas.Bool.{and_parts, true≢false}
 use Rattle.bittle.specs.PlainSet.{PlainSet}
 use Rattle.bit_entities.specs.Entities.{World, IsWorld, EndsAtCapacity, is_in, world_of, bare_world}
 use Rattle.bit_entities.specs.Entities.{may_have, with_number, with_living, without_first}
-use Rattle.bit_entities.specs.Entities.{without_entity, with_component}
+use Rattle.bit_entities.specs.Entities.{without_components, without_entity, with_component}
 
 -- a world with other living entities
 abbrev pub with_alive : World → PlainSet → World
@@ -98,6 +98,14 @@ losing_is_world w entity many is = record {
       (left ((k == entity) && nat_lt c many) (w.has k c) e).1;
 }
 
+pub losing_all_is_world : (w : World) (entity : ℕ) → IsWorld w →
+    IsWorld (without_components w entity)
+losing_all_is_world w entity is = record {
+  dead_have_nothing = λ k c e. is.dead_have_nothing k c (left (k == entity) (w.has k c) e).1;
+  living_are_below = is.living_are_below;
+  components_are_below = λ k c e. is.components_are_below k c (left (k == entity) (w.has k c) e).1;
+}
+
 -- `IsWorld` still holds after an entity is removed with its components
 pub going_is_world : (w : World) (entity : ℕ) → IsWorld w → IsWorld (without_entity w entity)
 going_is_world w entity is = record {
@@ -132,20 +140,14 @@ having_is_world w entity component has is below lives = record {
     elsewhere true b r off e = sym (ap (λ t. cond t has r) off) ∙ e
     elsewhere false b r off e = e
 
--- a world in which an entity lost each component and is no longer alive is the world without the
--- entity
-pub all_lost : (w : World) (entity : ℕ) → IsWorld w → (t : World) →
-    t ≡ without_first w entity w.components → (alive : PlainSet) →
-    alive ≡ with_number t.alive entity false →
-    with_alive t alive ≡ without_entity w entity
-all_lost w entity is t lost alive gone =
-    ap (with_alive t) gone
-    ∙ ap (λ u. with_alive u (with_number u.alive entity false)) lost
-    ∙ (λ i. record {
-      alive = with_number w.alive entity false;
-      components = w.components;
-      has = λ k c. by k c i;
-    })
+-- an entity that lost each component has none
+pub all_lost : (w : World) (entity : ℕ) → IsWorld w →
+    without_first w entity w.components ≡ without_components w entity
+all_lost w entity is = λ i. record {
+  alive = w.alive;
+  components = w.components;
+  has = λ k c. by k c i;
+}
   where
     by : (k c : ℕ) → cond ((k == entity) && nat_lt c w.components) false (w.has k c)
         ≡ cond (k == entity) false (w.has k c)
@@ -165,6 +167,13 @@ all_lost w entity is t lost alive gone =
             nothing : (a r : Bool) → r ≡ false → cond a false r ≡ false
             nothing true r e = refl
             nothing false r e = e
+
+-- an entity that has no component and is no longer alive is gone
+pub now_gone : (w : World) (entity : ℕ) (t : World) → t ≡ without_components w entity →
+    (alive : PlainSet) → alive ≡ with_number t.alive entity false →
+    with_alive t alive ≡ without_entity w entity
+now_gone w entity t lost alive gone = ap (with_alive t) gone
+    ∙ ap (λ u. with_alive u (with_number u.alive entity false)) lost
 
 -- the world after an entity was put among the living
 pub now_lives : (w : World) (entity : ℕ) (alive : PlainSet) →

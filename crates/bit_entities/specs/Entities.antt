@@ -6,7 +6,7 @@ use Rattle.std.specs.Prelude.{if◌then◌else◌}
 use Rattle.std.specs.Prelude.{Option, Some, None, List, slice_get}
 use Rattle.bittle.specs.PlainSet.{PlainSet, ascending, complement, empty_set}
 use Rattle.bit_entities.specs.declared.Event.{Event}
-use Rattle.bit_entities.specs.declared.Event.TheVariants.{Spawn, Remove, Attach, Detach}
+use Rattle.bit_entities.specs.declared.Event.TheVariants.{Spawn, Remove, Attach, Detach, DetachAll}
 use Rattle.bit_entities.specs.declared.Answer.{Answer}
 use Rattle.bit_entities.specs.declared.Answer.TheVariants.{Spawned, Full, Done, Refused}
 
@@ -53,6 +53,14 @@ without_first w entity many = record {
   has = λ k c. if (k == entity) && nat_lt c many then false else w.has k c;
 }
 
+-- the world in which an entity has no component; no life changes
+abbrev pub without_components : World → ℕ → World
+without_components w entity = record {
+  alive = w.alive;
+  components = w.components;
+  has = λ k c. if k == entity then false else w.has k c;
+}
+
 -- the world without an entity and its components
 abbrev pub without_entity : World → ℕ → World
 without_entity w entity = record {
@@ -85,6 +93,7 @@ answer_to w Spawn = spawned_or_full (least_dead w)
 answer_to w (Remove entity) = if w.alive.has entity then Done else Refused
 answer_to w (Attach entity component) = if may_have w entity component then Done else Refused
 answer_to w (Detach entity component) = if may_have w entity component then Done else Refused
+answer_to w (DetachAll entity) = if w.alive.has entity then Done else Refused
 
 -- the world after an event
 abbrev pub world_after : World → Event → World
@@ -96,6 +105,7 @@ world_after w (Attach entity component) = if may_have w entity component
 world_after w (Detach entity component) = if may_have w entity component
     then with_component w entity component false
     else w
+world_after w (DetachAll entity) = if w.alive.has entity then without_components w entity else w
 
 -- the answers to a list of events
 unfoldable pub event_answers : World → List Event → List Answer

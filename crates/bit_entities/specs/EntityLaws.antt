@@ -7,7 +7,7 @@ use Rattle.bit_histories.specs.Histories.{total}
 use Rattle.bit_entities.specs.Entities.{World, IsWorld, empty_world, answer_to, world_after}
 use Rattle.bit_entities.specs.Entities.{event_answers, final_world, matching}
 use Rattle.bit_entities.specs.declared.Event.{Event}
-use Rattle.bit_entities.specs.declared.Event.TheVariants.{Spawn, Remove, Attach, Detach}
+use Rattle.bit_entities.specs.declared.Event.TheVariants.{Spawn, Remove, Attach, Detach, DetachAll}
 use Rattle.bit_entities.specs.declared.Answer.{Answer}
 use Rattle.bit_entities.specs.declared.Answer.TheVariants.{Spawned, Full, Done, Refused}
 
@@ -61,7 +61,8 @@ pub record IsDoneExactlyIf (w : World) (event : Event) (may : Type 0) : Type 0 w
   pub done : (answer_to w event ≡ Done) ↔ may
   pub refused : (answer_to w event ≡ Refused) ↔ (answer_to w event ≢ Done)
 
--- a living entity may be removed; it may get and lose each component that there is
+-- a living entity may be removed, and may lose all its components; it may get and lose each
+-- component that there is
 abbrev pub DoneExactlyIfPossible : Type 0
 DoneExactlyIfPossible =
     (w : World) (entity component : ℕ)
@@ -70,6 +71,7 @@ DoneExactlyIfPossible =
     IsDoneExactlyIf w (Remove entity) lives
     × IsDoneExactlyIf w (Attach entity component) (lives × there)
     × IsDoneExactlyIf w (Detach entity component) (lives × there)
+    × IsDoneExactlyIf w (DetachAll entity) lives
 
 -- an event that is answered by Refused or Full changes nothing
 abbrev pub RefusedChangesNothing : Type 0
@@ -84,6 +86,7 @@ names Spawn entity = false
 names (Remove named) entity = entity == named
 names (Attach named component) entity = entity == named
 names (Detach named component) entity = entity == named
+names (DetachAll named) entity = entity == named
 
 -- an entity is alive after a change exactly if it was alive before, and has the same components
 pub record IsUnchanged (before after : World) (entity : ℕ) : Type 0 where
@@ -98,7 +101,7 @@ OthersAreUnchanged =
     → answer_to w event ≢ Spawned other
     → IsUnchanged w (world_after w event) other
 
--- an event that gives or takes a component changes no other component, and no life
+-- an event that gives or takes one component changes no other component, and no life
 abbrev pub OtherComponentsStay : Type 0
 OtherComponentsStay =
     (w : World) (event : Event) (entity component : ℕ)
@@ -127,6 +130,7 @@ removals Spawn = 0
 removals (Remove entity) = 1
 removals (Attach entity component) = 0
 removals (Detach entity component) = 0
+removals (DetachAll entity) = 0
 
 -- how many entities an event with this answer removed: 1 or 0
 abbrev pub removed_by : Event → Answer → ℕ
@@ -180,17 +184,18 @@ LivingAreThoseKept =
     ↔ (((w.alive.has entity ≡ true) × ((j : ℕ) → slice_get events j ≢ Some (Remove entity)))
     ⊎ ((k : ℕ) × LivesFrom w events entity k))
 
--- event k of a list gave the entity the component, and no later event removed the entity or took
--- the component away
+-- event k of a list gave the entity the component, and no later event removed the entity, or took
+-- the component or all components away
 pub record IsKeptFrom (w : World) (events : List Event) (entity component k : ℕ) : Type 0 where
   pub asked : slice_get events k ≡ Some (Attach entity component)
   pub done : slice_get (event_answers w events) k ≡ Some Done
   pub not_removed : (j : ℕ) → k < j → slice_get events j ≢ Some (Remove entity)
   pub not_detached : (j : ℕ) → k < j → slice_get events j ≢ Some (Detach entity component)
+  pub not_all_detached : (j : ℕ) → k < j → slice_get events j ≢ Some (DetachAll entity)
 
 -- an entity has a component after a list of events exactly if it had the component before and no
--- event removes the entity or takes the component away, or an event gives it and no later event
--- removes the entity or takes the component away
+-- event takes it away, or an event gives it and no later event takes it away; a removal takes all
+-- components away
 abbrev pub ComponentsAreThoseKept : Type 0
 ComponentsAreThoseKept =
     (w : World) (events : List Event) (entity component : ℕ)
@@ -198,7 +203,8 @@ ComponentsAreThoseKept =
     → ((final_world w events).has entity component ≡ true)
     ↔ (((w.has entity component ≡ true)
     × ((j : ℕ) → (slice_get events j ≢ Some (Remove entity))
-    × (slice_get events j ≢ Some (Detach entity component))))
+    × (slice_get events j ≢ Some (Detach entity component))
+    × (slice_get events j ≢ Some (DetachAll entity))))
     ⊎ ((k : ℕ) × IsKeptFrom w events entity component k))
 
 -- the list visits the members that are at least `from`: first the least of them, and then the

@@ -42,9 +42,9 @@ pub fn full_exactly_if_all_are_alive()
     ensures { FullExactlyIfAllAreAlive }
 {}
 
-/// States that a removal is answered by `Done` exactly if the entity is alive. A component is given
-/// or taken, and the event is answered by `Done`, exactly if the entity is alive and there is such
-/// a component. Else the answer is `Refused`.
+/// States that a removal, and an event that takes all components, is answered by `Done` exactly if
+/// the entity is alive. One component is given or taken, and the event is answered by `Done`,
+/// exactly if the entity is alive and there is such a component. Else the answer is `Refused`.
 pub fn done_exactly_if_possible()
     ensures { DoneExactlyIfPossible }
 {}
@@ -60,7 +60,7 @@ pub fn others_are_unchanged()
     ensures { OthersAreUnchanged }
 {}
 
-/// States that an event that gives or takes a component changes no other component of any entity,
+/// States that an event that gives or takes one component changes no other component of any entity,
 /// and that it ends and begins no life.
 pub fn other_components_stay()
     ensures { OtherComponentsStay }
@@ -102,8 +102,9 @@ pub fn living_are_those_kept()
 {}
 
 /// States that an entity has a component after a list of events exactly if it had the component
-/// before and the list neither removes the entity nor takes the component away, or the list gives
-/// the component and afterwards does neither.
+/// before and the list does not take it away, or the list gives it and does not take it away
+/// afterwards. An event takes a component away if it removes the entity, or takes this component or
+/// all components from it.
 pub fn components_are_those_kept()
     ensures { ComponentsAreThoseKept }
 {}
@@ -115,10 +116,10 @@ pub fn queries_visit_each_once()
     ensures { QueriesVisitEachOnce }
 {}
 
-/// States that calls of `spawn`, `remove`, `attach` and `detach` in any sequence are a history
-/// exactly if they answer as the machine does on the list of their events, and leave its last
-/// state. The clauses of each call say what it answers and which world it leaves, so such calls are
-/// a history. So each law of lists of events holds for them too.
+/// States that calls of `spawn`, `remove`, `attach`, `detach` and `detach_all` in any sequence are
+/// a history exactly if they answer as the machine does on the list of their events, and leave its
+/// last state. The clauses of each call say what it answers and which world it leaves, so such
+/// calls are a history. So each law of lists of events holds for them too.
 pub fn calls_answer_as_lists()
     ensures { CallsAnswerAsLists answer_to world_after event_answers final_world }
 {}

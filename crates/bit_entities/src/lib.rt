@@ -55,6 +55,9 @@ pub enum Event {
     /// Takes a component from an entity. The first number is the entity, the second the component.
     /// The event is answered by [`Answer::Done`] or [`Answer::Refused`].
     Detach(u32, u32),
+    /// Takes each component from an entity, which stays alive: answered by [`Answer::Done`] or
+    /// [`Answer::Refused`].
+    DetachAll(u32),
 }
 
 /// The answer to an event.
@@ -111,7 +114,8 @@ impl<B: BitsOwned, const N: usize> World<B, N> {
         }
     }
 
-    /// Returns whether an entity is alive. A number at or past the capacity is not alive.
+    /// Returns whether an entity is alive. A number at or past the capacity is not alive. It costs
+    /// O(1).
     pub fn is_alive(&self, entity: u32) -> bool
         ensures value { let world = world_of N (set_in B.Shape B.Order.Endian) self.now.alive
             self.now.components in result ≡ world.alive.has entity }
@@ -152,7 +156,7 @@ impl<B: BitsOwned, const N: usize> World<B, N> {
     }
 
     /// Returns whether an entity has a component: `false` if the entity is not alive, or if there
-    /// is no such component.
+    /// is no such component. It costs O(1).
     pub fn has(&self, entity: u32, component: u32) -> bool
         ensures value { let world = world_of N (set_in B.Shape B.Order.Endian) self.now.alive
             self.now.components in result ≡ world.has entity component }
@@ -204,7 +208,8 @@ impl<B: BitsOwned, const N: usize> World<B, N> {
     }
 
     /// Removes an entity and its components, and returns `true`. If the entity is not alive, the
-    /// call changes nothing and returns `false`. The call clears one bit of each mask.
+    /// call changes nothing and returns `false`. The call clears one bit of each mask. To take the
+    /// components alone, call [`detach_all`](World::detach_all).
     pub fn remove(&mut self, entity: u32) -> bool
         ensures done { let before = world_of N (set_in B.Shape B.Order.Endian) self.old.alive
             self.old.components in result ≡ before.alive.has entity }
@@ -228,11 +233,8 @@ impl<B: BitsOwned, const N: usize> World<B, N> {
             self.new.components ≡ world_after (world_of N (set_in B.Shape B.Order.Endian)
             self.old.alive self.old.components) (Event.Remove entity) }
     {
-        if !self.is_alive(entity) {
+        if !self.detach_all(entity) {
             return false;
-        }
-        for component in 0..N {
-            self.components[component].clear_bit(entity);
         }
         self.alive.clear_bit(entity);
         true
@@ -250,7 +252,10 @@ impl<B: BitsOwned, const N: usize> World<B, N> {
 
     /// Gives an entity a component, and returns `true`, even if the entity had the component
     /// before. If the entity is not alive, or there is no such component, the call changes nothing
-    /// and returns `false`.
+    /// and returns `false`. It costs O(1).
+    ///
+    /// In a `World::<u64, 2>` in which entity 3 is alive and 4 is not, `attach(3, 1)` returns
+    /// `true`; `attach(4, 1)` and `attach(3, 2)` return `false`.
     pub fn attach(&mut self, entity: u32, component: u32) -> bool
         ensures done { result ≡ may_have (world_of N (set_in B.Shape B.Order.Endian)
             self.old.alive self.old.components) entity component }
@@ -284,7 +289,9 @@ impl<B: BitsOwned, const N: usize> World<B, N> {
 
     /// Takes a component from an entity, and returns `true`, even if the entity lacked the
     /// component. If the entity is not alive, or there is no such component, the call changes
-    /// nothing and returns `false`.
+    /// nothing and returns `false`. It costs O(1).
+    ///
+    /// After `detach(3, 1)` returns `true`, `has(3, 1)` is `false` and `is_alive(3)` is `true`.
     pub fn detach(&mut self, entity: u32, component: u32) -> bool
         ensures done { result ≡ may_have (world_of N (set_in B.Shape B.Order.Endian)
             self.old.alive self.old.components) entity component }
@@ -316,6 +323,37 @@ impl<B: BitsOwned, const N: usize> World<B, N> {
         true
     }
 
+    /// Takes each component from an entity, which stays alive, and returns `true`. If the entity is
+    /// not alive, the call changes nothing and returns `false`. The call clears one bit of the mask
+    /// of each component.
+    ///
+    /// After `detach_all(3)` returns `true`, `has(3, 0)` is `false` and `is_alive(3)` is `true`.
+    pub fn detach_all(&mut self, entity: u32) -> bool
+        ensures done { let before = world_of N (set_in B.Shape B.Order.Endian) self.old.alive
+            self.old.components in result ≡ before.alive.has entity }
+        ensures below { IsTrue result → entity < B.type_capacity }
+        ensures bare { let after = world_of N (set_in B.Shape B.Order.Endian) self.new.alive
+            self.new.components in (component : ℕ) → after.has entity component ≡ false }
+        ensures living { self.new.alive ≡ self.old.alive }
+        ensures others { let before = world_of N (set_in B.Shape B.Order.Endian) self.old.alive
+            self.old.components in
+            let after = world_of N (set_in B.Shape B.Order.Endian) self.new.alive
+            self.new.components in
+            (other component : ℕ) → other ≢ entity
+            → after.has other component ≡ before.has other component }
+        ensures world { world_of N (set_in B.Shape B.Order.Endian) self.new.alive
+            self.new.components ≡ world_after (world_of N (set_in B.Shape B.Order.Endian)
+            self.old.alive self.old.components) (Event.DetachAll entity) }
+    {
+        if !self.is_alive(entity) {
+            return false;
+        }
+        for component in 0..N {
+            self.components[component].clear_bit(entity);
+        }
+        true
+    }
+
     // Answers one event.
     fn answer(&mut self, event: Event) -> Answer
         ensures answer { result ≡ answer_to (world_of N (set_in B.Shape B.Order.Endian)
@@ -332,6 +370,7 @@ impl<B: BitsOwned, const N: usize> World<B, N> {
             Event::Remove(entity) => done_or_refused(self.remove(entity)),
             Event::Attach(entity, component) => done_or_refused(self.attach(entity, component)),
             Event::Detach(entity, component) => done_or_refused(self.detach(entity, component)),
+            Event::DetachAll(entity) => done_or_refused(self.detach_all(entity)),
         }
     }
 

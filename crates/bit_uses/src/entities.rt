@@ -207,6 +207,59 @@ pub fn take_and_remove<B: BitsOwned>(world: &mut World<B, 2>, entity: u32) -> (b
     (taken, removed)
 }
 
+/// Takes all components from `entity`. Returns what the call returns. The clause says that the call
+/// is a history of one call, as that of [`spawn_and_give`].
+pub fn take_all<B: BitsOwned>(world: &mut World<B, 2>, entity: u32) -> bool
+    ensures { IsHistory answer_to world_after
+        (world_of 2 (set_in B.Shape B.Order.Endian) world.old.alive
+        world.old.components)
+        ((Event.DetachAll entity, if result then Answer.Done else Answer.Refused) ∷ [])
+        (world_of 2 (set_in B.Shape B.Order.Endian) world.new.alive world.new.components) }
+{
+    world.detach_all(entity)
+}
+
+/// Takes all components from `entity`. Returns whether it still has `component`, and how many
+/// entities are alive before and afterwards: it has none, and as many are alive.
+pub fn take_all_and_ask<B: BitsOwned, const N: usize>(
+    world: &mut World<B, N>,
+    entity: u32,
+    component: u32,
+) -> (bool, u32, u32)
+    ensures none { result.0 ≡ false }
+    ensures live { result.1 ≡ result.2 }
+{
+    let before = world.len();
+    world.detach_all(entity);
+    (world.has(entity, component), before, world.len())
+}
+
+/// Takes all components from `entity`, and returns whether `other` has `component` afterwards, and
+/// whether it had the component before. Both are equal unless the two entities are one.
+pub fn take_all_beside<B: BitsOwned, const N: usize>(
+    world: &mut World<B, N>,
+    entity: u32,
+    other: u32,
+    component: u32,
+) -> (bool, bool)
+    ensures { other ≢ entity → result.0 ≡ result.1 }
+{
+    let had = world.has(other, component);
+    world.detach_all(entity);
+    (world.has(other, component), had)
+}
+
+/// Forgets the place of an entity and takes all its components, unless it is not alive. The check
+/// proves that the entity is an index of the table.
+pub fn reset_placed<B: BitsOwned>(world: &mut World<B, 2>, places: &mut [i32], entity: u32)
+    requires { B.type_capacity ≤ length places.old }
+    ensures { length places.new ≡ length places.old }
+{
+    if world.detach_all(entity) {
+        places[entity as usize] = 0;
+    }
+}
+
 /// Spawns an entity and removes it. Returns how many entities are alive before and afterwards: as
 /// many, also if no number is free.
 pub fn spawn_and_remove<B: BitsOwned, const N: usize>(world: &mut World<B, N>) -> (u32, u32)

@@ -96,6 +96,7 @@ fn change_most<B: BitsOwned>(rt: &impl Abort, world: &mut World<B, 2>, asked: &A
     costs!(rt; asked, world.attach(451, 1), true, 0, 1);
     costs!(rt; asked, world.has(451, 1), true, 0, 0);
     costs!(rt; asked, world.detach(451, 2), false, 0, 0);
+    costs!(rt; asked, world.detach_all(451), true, 0, 1);
     costs!(rt; asked, world.remove(451), true, 0, 2);
     costs!(rt; asked, world.remove(451), false, 0, 1);
 }

@@ -7,7 +7,7 @@ use bittle::{Bits, BitsOwned, LittleEndian, Set};
 
 // Events. Some name an entity that is not alive, or a component that does not exist. In a `u8`
 // there is no entity 9, and index 9 would wrap to 1.
-const EVENTS: [Event; 13] = [
+const EVENTS: [Event; 16] = [
     Event::Spawn,
     Event::Spawn,
     Event::Attach(1, 0),
@@ -21,11 +21,14 @@ const EVENTS: [Event; 13] = [
     Event::Detach(0, 0),
     Event::Remove(9),
     Event::Detach(9, 1),
+    Event::DetachAll(1),
+    Event::DetachAll(2),
+    Event::DetachAll(9),
 ];
 
 // Returns the expected answers to the events.
-fn expected() -> [Answer; 13] {
-    let mut answers = [Answer::Refused; 13];
+fn expected() -> [Answer; 16] {
+    let mut answers = [Answer::Refused; 16];
     answers[0] = Answer::Spawned(0);
     answers[1] = Answer::Spawned(1);
     answers[2] = Answer::Done;
@@ -33,12 +36,13 @@ fn expected() -> [Answer; 13] {
     answers[7] = Answer::Done;
     answers[9] = Answer::Spawned(1);
     answers[10] = Answer::Done;
+    answers[13] = Answer::Done;
     answers
 }
 
 // Serves the events, and returns the answers.
-fn serve<B: BitsOwned>(world: &mut World<B, 2>) -> [Answer; 13] {
-    let mut answers = [Answer::Full; 13];
+fn serve<B: BitsOwned>(world: &mut World<B, 2>) -> [Answer; 16] {
+    let mut answers = [Answer::Full; 16];
     world.serve(&EVENTS, &mut answers);
     answers
 }
@@ -86,6 +90,21 @@ fn the_example(rt: HostRuntime) {
     same!(rt; (world.remove(1), world.spawn()), (true, Some(1)));
     holds!(rt; !world.has(1, 0) && !world.has(1, 1));
     same!(rt; world.len(), 2);
+}
+
+#[test]
+fn an_entity_without_components_lives_on(rt: HostRuntime) {
+    let mut world = World::<u8, 3>::with_alive(0b0011_0001);
+    holds!(rt; world.attach(4, 0) && world.attach(4, 2) && world.attach(5, 2));
+    holds!(rt; world.detach_all(4) && world.detach_all(0));
+    same!(rt; (world.matching(&[0]), world.matching(&[2])), (0, 0b0010_0000));
+    holds!(rt; world.is_alive(4) && !world.has(4, 0) && !world.has(4, 2) && world.has(5, 2));
+    holds!(rt; !world.detach_all(1) && !world.detach_all(8) && !world.detach_all(12));
+    same!(rt; (world.len(), world.matching(&[])), (3, 0b0011_0001));
+    let mut bare = World::<u8, 0>::with_alive(1);
+    same!(rt; (bare.detach_all(0), bare.detach_all(1), bare.is_alive(0)), (true, false, true));
+    let mut none = World::<[u8; 0], 1>::new();
+    same!(rt; none.detach_all(0), false);
 }
 
 // Spawns `often` times, and returns what the last spawn returns.
@@ -163,6 +182,14 @@ fn ask_tables(event: Event, alive: &mut [bool; 32], has: &mut [[bool; 3]; 32]) -
         }
         Event::Attach(entity, component) => change_tables(alive, has, entity, component, true),
         Event::Detach(entity, component) => change_tables(alive, has, entity, component, false),
+        Event::DetachAll(entity) => {
+            if entity < 32 && alive[entity as usize] {
+                has[entity as usize] = [false; 3];
+                Answer::Done
+            } else {
+                Answer::Refused
+            }
+        }
     }
 }
 
@@ -202,11 +229,12 @@ fn visited<B: BitsOwned>(world: &World<B, 3>, required: &[u32]) -> ([bool; 32], 
 // Draws an event. A third of the events are spawns. Some name an entity that is not alive, or a
 // component that does not exist.
 fn draw_event(state: &mut u32) -> Event {
-    let (kind, entity, component) = (draw(state) % 6, draw(state) % 34, draw(state) % 4);
+    let (kind, entity, component) = (draw(state) % 12, draw(state) % 34, draw(state) % 4);
     match kind {
-        0 | 1 => Event::Spawn,
-        2 => Event::Remove(entity),
-        3 => Event::Detach(entity, component),
+        0..=3 => Event::Spawn,
+        4 | 5 => Event::Remove(entity),
+        6 => Event::Detach(entity, component),
+        7 => Event::DetachAll(entity),
         _ => Event::Attach(entity, component),
     }
 }

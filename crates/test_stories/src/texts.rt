@@ -94,6 +94,12 @@ fn events_of_entities_are_named_with_their_numbers(rt: HostRuntime) -> Result<()
         &bit_entities::Event::Detach(0, 12),
         "Detach(0, 12)",
     )?;
+    reads(
+        &rt,
+        rt.alloc(),
+        &bit_entities::Event::DetachAll(31),
+        "DetachAll(31)",
+    )?;
     Ok(())
 }
 
