@@ -86,7 +86,8 @@ impl<B: BitsOwned> RoundRobin<B> {
         B::bits()
     }
 
-    /// Returns whether the number is a task, and ready. A number past the last task is no task.
+    /// Returns whether the number is a task, and ready. A number past the last task is no task. It
+    /// costs O(1).
     pub fn is_ready(&self, task: u32) -> bool
         ensures value { result ≡ is_ready (set_in B.Shape B.Order.Endian self.now.ready) task }
         ensures below { IsTrue result → task < B.type_capacity }
@@ -95,7 +96,9 @@ impl<B: BitsOwned> RoundRobin<B> {
     }
 
     /// Makes a task ready; a task that is ready stays ready. For a number past the last task it
-    /// returns `Err`, and nothing changes.
+    /// returns `Err`, and nothing changes. It costs O(1).
+    ///
+    /// In a `RoundRobin::<u64>`, `wake(7)` returns `Ok(())` and `wake(64)` returns `Err(NoTask)`.
     pub fn wake(&mut self, task: u32) -> Result<(), NoTask>
         ensures a_task { IsOk result ↔ task < B.type_capacity }
         ensures is_ready { task < B.type_capacity
@@ -123,7 +126,9 @@ impl<B: BitsOwned> RoundRobin<B> {
 
     /// Takes a task out of the ready tasks without running it, and returns whether it was ready. If
     /// it was not ready, or if there is no such task, the call returns `false` and changes nothing.
-    /// The turn stays as it is.
+    /// The turn stays as it is. It costs O(1).
+    ///
+    /// After `wake(7)`, `remove(7)` returns `true` once and then `false`.
     pub fn remove(&mut self, task: u32) -> bool
         ensures was_ready { result
             ≡ is_ready (set_in B.Shape B.Order.Endian self.old.ready) task }
@@ -173,6 +178,9 @@ impl<B: BitsOwned> RoundRobin<B> {
     /// task is ready, the call changes nothing and returns `None`; with capacity 0 this is always
     /// so. The call reads the words from the turn up to the one with the bit of the task. If no
     /// task is ready there, it reads the words before the turn.
+    ///
+    /// After `wake(7)` and `wake(3)`, `next()` returns `Some(3)`. If task 3 is then woken again,
+    /// `next()` returns `Some(7)` before it returns `Some(3)`.
     pub fn next(&mut self) -> Option<u32>
         ensures task { result ≡ next_in_turn
             (round_at (set_in B.Shape B.Order.Endian self.old.ready) self.old.turn) }

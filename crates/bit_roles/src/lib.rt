@@ -113,7 +113,10 @@ impl<B: BitsOwned, const N: usize> Roles<B, N> {
     /// Grants a permission to a role. A permission that was granted before stays granted. The role
     /// and those that inherit from it allow the permission afterwards. No other role allows more
     /// than before, and none allows less. If there is no such role or permission, the call changes
-    /// nothing and returns `Err`.
+    /// nothing and returns `Err`. It costs O(1).
+    ///
+    /// In a `Roles::<u64, 4>`, `grant(3, 63)` returns `Ok(())`; `grant(4, 0)` and `grant(0, 64)`
+    /// return `Err(Refused)`.
     pub fn grant(&mut self, role: u32, permission: u32) -> Result<(), Refused>
         ensures done { IsOk result ↔ ((role < N) × (permission < B.type_capacity)) }
         ensures granted { let after = roles_of N B.type_capacity (set_in B.Shape B.Order.Endian)
@@ -166,7 +169,10 @@ impl<B: BitsOwned, const N: usize> Roles<B, N> {
     /// Takes back a permission that was granted to the role itself. A permission that was not
     /// granted stays so. The role still allows the permission if its parent does. Each role keeps
     /// every other permission, and none allows more than before. If there is no such role or
-    /// permission, the call changes nothing and returns `Err`.
+    /// permission, the call changes nothing and returns `Err`. It costs O(1).
+    ///
+    /// After `grant(0, 5)`, `grant(2, 5)` and `inherit(2, 0)`, `revoke(2, 5)` returns `Ok(())`, and
+    /// role 2 still allows permission 5.
     pub fn revoke(&mut self, role: u32, permission: u32) -> Result<(), Refused>
         ensures done { IsOk result ↔ ((role < N) × (permission < B.type_capacity)) }
         ensures revoked { let after = roles_of N B.type_capacity (set_in B.Shape B.Order.Endian)
@@ -223,7 +229,9 @@ impl<B: BitsOwned, const N: usize> Roles<B, N> {
     /// Gives a role a parent, in place of any parent that it had. Afterwards the role allows what
     /// it was granted and what the new parent allows; it loses what only the old parent allowed. If
     /// there is no such role, or `parent` is not less than `role`, the call changes nothing and
-    /// returns `Err`.
+    /// returns `Err`. It costs O(1).
+    ///
+    /// `inherit(2, 0)` returns `Ok(())`; `inherit(0, 2)` and `inherit(2, 2)` return `Err(Refused)`.
     pub fn inherit(&mut self, role: u32, parent: u32) -> Result<(), Refused>
         ensures done { IsOk result ↔ ((role < N) × (parent < role)) }
         ensures parent { let after = roles_of N B.type_capacity (set_in B.Shape B.Order.Endian)
@@ -270,7 +278,10 @@ impl<B: BitsOwned, const N: usize> Roles<B, N> {
 
     /// Takes the parent of a role away. A role without a parent stays so. Afterwards the role
     /// allows just what it was granted, and no role allows more than before. If there is no such
-    /// role, the call changes nothing and returns `Err`.
+    /// role, the call changes nothing and returns `Err`. It costs O(1).
+    ///
+    /// After `inherit(2, 0)`, `parent(2)` returns `Some(0)`; after `clear_parent(2)` it returns
+    /// `None`.
     pub fn clear_parent(&mut self, role: u32) -> Result<(), Refused>
         ensures done { IsOk result ↔ role < N }
         ensures parent { let after = roles_of N B.type_capacity (set_in B.Shape B.Order.Endian)
@@ -313,7 +324,7 @@ impl<B: BitsOwned, const N: usize> Roles<B, N> {
     }
 
     /// Returns whether a permission was granted to the role itself, and not taken back since. It
-    /// returns `false` if there is no such role or permission.
+    /// returns `false` if there is no such role or permission. It costs O(1).
     pub fn is_granted(&self, role: u32, permission: u32) -> bool
         ensures value { let roles = roles_of N B.type_capacity (set_in B.Shape B.Order.Endian)
             self.now.granted self.now.parents in result ≡ roles.granted role permission }
@@ -341,7 +352,8 @@ impl<B: BitsOwned, const N: usize> Roles<B, N> {
         Some(set)
     }
 
-    /// Returns the parent of a role, or `None` if it has none or there is no such role.
+    /// Returns the parent of a role, or `None` if it has none or there is no such role. It costs
+    /// O(1).
     pub fn parent(&self, role: u32) -> Option<u32>
         ensures value { let roles = roles_of N B.type_capacity (set_in B.Shape B.Order.Endian)
             self.now.granted self.now.parents in result ≡ roles.parent role }

@@ -141,7 +141,9 @@ impl<'a, V: Drop, B: BitsOwned> Slots<'a, V, B> {
 
     /// Takes out the value of a key and returns it. From then on the key finds nothing. The slot is
     /// free again, unless the key's generation is `u32::MAX`. If the key finds no value, the call
-    /// changes nothing and returns `None`.
+    /// changes nothing and returns `None`. It costs O(1).
+    ///
+    /// If `insert(5)` returns `Ok(key)`, `remove(key)` returns `Some(5)` once and then `None`.
     pub fn remove(&mut self, key: Key) -> Option<V>
         ensures found { result ≡ found (stages self.old.row.now key.slot key.generation) }
         ensures stages { IsRemoved (stages self.old.row.now) key
@@ -173,7 +175,10 @@ impl<'a, V: Drop, B: BitsOwned> Slots<'a, V, B> {
     }
 
     /// Replaces the value of a key, and returns the old value. The key stays valid. If the key
-    /// finds no value, the call changes nothing and returns the new value in `Err`.
+    /// finds no value, the call changes nothing and returns the new value in `Err`. It costs O(1).
+    ///
+    /// If `insert(5)` returns `Ok(key)`, `replace(key, 8)` returns `Ok(5)`, and `remove(key)` then
+    /// returns `Some(8)`.
     pub fn replace(&mut self, key: Key, value: V) -> Result<V, V>
         ensures stages { IsReplaced (stages self.old.row.now) key value result
             (stages self.new.row.now) }
@@ -199,7 +204,8 @@ impl<'a, V: Drop, B: BitsOwned> Slots<'a, V, B> {
 
     /// Calls `change` on the value of a key, and returns `true`. The function may change the value,
     /// and the key stays valid. If the key finds no value, nothing is called or changed, and the
-    /// result is `false`. `slots.update(key, |count| *count = 0)` sets a count to 0.
+    /// result is `false`. `slots.update(key, |count| *count = 0)` sets a count to 0. The call costs
+    /// O(1), plus what `change` costs.
     pub fn update<F: FnOnce(&mut V)>(&mut self, key: Key, change: F) -> bool
         requires { (value : MutBor V)
             → found (stages self.old.row.now key.slot key.generation) ≡ Some value.now
@@ -248,7 +254,7 @@ impl<'a, V: Drop, B: BitsOwned> Slots<'a, V, B> {
         }
     }
 
-    /// Returns the value of a key, or `None` if the key finds no value.
+    /// Returns the value of a key, or `None` if the key finds no value. It costs O(1).
     pub fn get(&self, key: Key) -> Option<&V>
         ensures value { option_copied result
             ≡ found (stages self.now.row.now key.slot key.generation) }
@@ -257,7 +263,7 @@ impl<'a, V: Drop, B: BitsOwned> Slots<'a, V, B> {
         row::get(self.row, key)
     }
 
-    /// Returns whether the key finds a value.
+    /// Returns whether the key finds a value. It costs O(1).
     pub fn contains(&self, key: Key) -> bool
         ensures found { result
             ≡ is_some (found (stages self.now.row.now key.slot key.generation)) }
@@ -306,7 +312,8 @@ impl<'a, V: Drop, B: BitsOwned> Slots<'a, V, B> {
         &self.live
     }
 
-    /// Returns the key of the value that a slot holds, or `None` if the slot holds no value.
+    /// Returns the key of the value that a slot holds, or `None` if the slot holds no value or
+    /// there is no such slot. It costs O(1).
     pub fn key_at(&self, slot: u32) -> Option<Key>
         ensures key { MatchOption result
             (is_slot is_live self.now.row.now slot ≡ false)
