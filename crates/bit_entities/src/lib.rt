@@ -26,7 +26,7 @@
 
 ghost use Rattle.std.specs.Option.{is_some};
 ghost use Rattle.std.specs.Prelude.{◌≡◌, ◌≢◌, ◌<◌, ◌≤◌, ◌+◌, ℕ, length, true, false, IfSome};
-ghost use Rattle.std.specs.Prelude.{IsTrue};
+ghost use Rattle.std.specs.Prelude.{IsSome, IsTrue};
 ghost use Rattle.std.specs.Prelude.{MatchOption, Some, ◌==◌, cond, if◌then◌else◌};
 ghost use Rattle.bittle.specs.PlainSet.{complement, size};
 ghost use Rattle.bittle.specs.Searches.{IsFirstIn};
@@ -90,8 +90,9 @@ impl<B: BitsOwned, const N: usize> World<B, N> {
     /// checks this. With capacity 0 there is no entity.
     pub fn new() -> World<B, N>
         requires { IsTrue B.indexable }
-        ensures { world_of N (set_in B.Shape B.Order.Endian) result.alive result.components
+        ensures world { world_of N (set_in B.Shape B.Order.Endian) result.alive result.components
             ≡ empty_world B.type_capacity N }
+        ensures count { size (set_in B.Shape B.Order.Endian result.alive) ≡ 0 }
     {
         World::with_alive(B::zeros())
     }
@@ -181,6 +182,8 @@ impl<B: BitsOwned, const N: usize> World<B, N> {
             B.type_capacity result }
         ensures room { let living = size (set_in B.Shape B.Order.Endian self.old.alive) in
             MatchOption result (living ≡ B.type_capacity) (λ _. living < B.type_capacity) }
+        ensures succeeds { size (set_in B.Shape B.Order.Endian self.old.alive) < B.type_capacity
+            → IsSome result }
         ensures least_dead { let before = set_in B.Shape B.Order.Endian self.old.alive in
             (other : ℕ) → other < B.type_capacity → before.has other ≡ false
             → MatchOption result ⊥ (λ entity. entity ≤ other) }

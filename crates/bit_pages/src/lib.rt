@@ -4,7 +4,7 @@
 ghost use Rattle.std.specs.Option.{is_some};
 ghost use Rattle.std.specs.Prelude.{◌≡◌, ◌≢◌, ℕ, ◌+◌, ◌-◌, ◌<◌, ◌≤◌, ◌↔◌, cond, length, true};
 ghost use Rattle.std.specs.Prelude.{false, slice_index_or};
-ghost use Rattle.std.specs.Prelude.{IfSome, IsTrue, IsOk, MatchOption, Some, is_ok};
+ghost use Rattle.std.specs.Prelude.{IfSome, IsSome, IsTrue, IsOk, MatchOption, Some, is_ok};
 ghost use Rattle.bittle.specs.Comparison.{AreSame};
 ghost use Rattle.bittle.specs.PlainSet.{complement, empty_set, is_in_span, size, with_span};
 ghost use Rattle.bittle.specs.PlainSet.{without_span};
@@ -99,7 +99,8 @@ impl<B: BitsOwned> Pages<B> {
     /// checks this. With capacity 0 there is no page.
     pub fn new() -> Pages<B>
         requires { IsTrue B.indexable }
-        ensures { set_in B.Shape B.Order.Endian result.map ≡ empty_set B.type_capacity }
+        ensures pages { set_in B.Shape B.Order.Endian result.map ≡ empty_set B.type_capacity }
+        ensures count { size (set_in B.Shape B.Order.Endian result.map) ≡ 0 }
     {
         Pages::with_taken(B::zeros())
     }
@@ -142,6 +143,8 @@ impl<B: BitsOwned> Pages<B> {
         ensures page { result ≡ least_free (set_in B.Shape B.Order.Endian self.old.map) }
         ensures found { let before = set_in B.Shape B.Order.Endian self.old.map in
             MatchOption result (size before ≡ B.type_capacity) (IsLeastFree before) }
+        ensures succeeds { size (set_in B.Shape B.Order.Endian self.old.map) < B.type_capacity
+            → IsSome result }
         ensures below { IfSome result (λ page. page < B.type_capacity) }
         ensures was_free { IfSome result
             (λ page. is_taken (set_in B.Shape B.Order.Endian self.old.map) page ≡ false) }
@@ -217,6 +220,8 @@ impl<B: BitsOwned> Pages<B> {
         ensures whole { is_ok result
             ≡ is_taken (set_in B.Shape B.Order.Endian self.old.map) page }
         ensures room { IsOk result
+            → size (set_in B.Shape B.Order.Endian self.new.map) < B.type_capacity }
+        ensures leaves_room { page < B.type_capacity
             → size (set_in B.Shape B.Order.Endian self.new.map) < B.type_capacity }
     {
         if !self.is_taken(page) {

@@ -4,7 +4,7 @@ use Rattle.std.proofs.Common.{◌==◌, nat_lt, Option, Some, None, List, [], �
 use Rattle.std.proofs.Common.{ap, ◌∙◌, subst, arith}
 use Rattle.std.proofs.lemmas.Bool.{cases_lt, eq-eqb, eqb-true, ne_eqb, lt-ltb, ltb-true, and_parts}
 use Rattle.std.proofs.lemmas.Bool.{and_right, true≢false}
-use Rattle.std.specs.Prelude.{MatchOption, IsTrue, slice_get}
+use Rattle.std.specs.Prelude.{MatchOption, IsSome, IsTrue, slice_get}
 use Rattle.bittle.specs.PlainSet.{PlainSet, ascending, contains, with_index, without_index, size}
 use Rattle.bittle.specs.Searches.{NoneIn, IsFirstIn}
 use Rattle.bittle.proofs.CallerLists.{ascending_none, ascending_first}
@@ -185,3 +185,8 @@ module _ (s t : PlainSet) (task : ℕ) (ready : true ≡ is_ready s task)
   pub removes_no_other : (other : ℕ) → (other ≡ task → ⊥) → is_ready t other ≡ is_ready s other
   removes_no_other other apart = takes_no_other s t task was_within after other
       (λ e. apart (let same : task ≡ other = cc in sym same))
+
+-- a search that tells whether a set has a member finds one if there is one
+pub found_if_any : (n : ℕ) (o : Option ℕ) → MatchOption o (n ≡ 0) (λ _. 0 < n) → 0 < n → IsSome o
+found_if_any n None none any = absurd (omega (arith, none, any))
+found_if_any n (Some k) some any = refl

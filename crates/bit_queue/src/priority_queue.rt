@@ -1,7 +1,7 @@
 //! The queue in which the most urgent ready task runs.
 
 ghost use Rattle.std.specs.Prelude.{◌≡◌, ◌==◌, ◌<◌, ◌≤◌, ◌↔◌, length, true, false, IfSome, IsOk};
-ghost use Rattle.std.specs.Prelude.{IsTrue, MatchOption, Some, ℕ, ◌≢◌};
+ghost use Rattle.std.specs.Prelude.{IsSome, IsTrue, MatchOption, Some, ℕ, ◌≢◌};
 ghost use Rattle.std.specs.Prelude.{◌+◌, ◌&&◌, not, cond, is_ok, is_some};
 ghost use Rattle.bittle.specs.PlainSet.{empty_set, size};
 ghost use Rattle.bittle.specs.Searches.{NoneIn};
@@ -30,7 +30,8 @@ impl<B: BitsOwned> PriorityQueue<B> {
     /// checks this. With capacity 0 there is no task.
     pub fn new() -> PriorityQueue<B>
         requires { IsTrue B.indexable }
-        ensures { set_in B.Shape B.Order.Endian result.ready ≡ empty_set B.type_capacity }
+        ensures ready { set_in B.Shape B.Order.Endian result.ready ≡ empty_set B.type_capacity }
+        ensures count { size (set_in B.Shape B.Order.Endian result.ready) ≡ 0 }
     {
         PriorityQueue::with_ready(B::zeros())
     }
@@ -155,6 +156,8 @@ impl<B: BitsOwned> PriorityQueue<B> {
         ensures below { IfSome result (λ task. task < B.type_capacity) }
         ensures some { let before = set_in B.Shape B.Order.Endian self.now.ready in
             MatchOption result (size before ≡ 0) (λ _. 0 < size before) }
+        ensures succeeds { 0 < size (set_in B.Shape B.Order.Endian self.now.ready)
+            → IsSome result }
     {
         self.ready.first_one_in::<B::Order>(0, B::bits())
     }
@@ -171,6 +174,8 @@ impl<B: BitsOwned> PriorityQueue<B> {
         ensures below { IfSome result (λ task. task < B.type_capacity) }
         ensures some { let before = set_in B.Shape B.Order.Endian self.old.ready in
             MatchOption result (size before ≡ 0) (λ _. 0 < size before) }
+        ensures succeeds { 0 < size (set_in B.Shape B.Order.Endian self.old.ready)
+            → IsSome result }
         ensures was_ready { IfSome result
             (λ task. is_ready (set_in B.Shape B.Order.Endian self.old.ready) task ≡ true) }
         ensures rests { IfSome result

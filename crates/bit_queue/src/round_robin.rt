@@ -1,7 +1,7 @@
 //! The queue in which the ready tasks take turns.
 
 ghost use Rattle.std.specs.Prelude.{◌≡◌, ◌==◌, ◌<◌, ◌≤◌, ◌↔◌, length, true, false, IfSome, IsOk};
-ghost use Rattle.std.specs.Prelude.{IsTrue, MatchOption, Some, ℕ, ◌≢◌};
+ghost use Rattle.std.specs.Prelude.{IsSome, IsTrue, MatchOption, Some, ℕ, ◌≢◌};
 ghost use Rattle.std.specs.Prelude.{◌+◌, ◌&&◌, not, cond, is_ok, is_some};
 ghost use Rattle.bittle.specs.PlainSet.{empty_set, size};
 ghost use Rattle.bittle.specs.Searches.{NoneIn};
@@ -36,6 +36,7 @@ impl<B: BitsOwned> RoundRobin<B> {
     pub fn new() -> RoundRobin<B>
         requires { IsTrue B.indexable }
         ensures ready { set_in B.Shape B.Order.Endian result.ready ≡ empty_set B.type_capacity }
+        ensures count { size (set_in B.Shape B.Order.Endian result.ready) ≡ 0 }
         ensures turn { result.turn ≡ 0 }
     {
         RoundRobin::with_ready(B::zeros())
@@ -167,6 +168,8 @@ impl<B: BitsOwned> RoundRobin<B> {
         ensures below { IfSome result (λ task. task < B.type_capacity) }
         ensures some { let before = set_in B.Shape B.Order.Endian self.now.ready in
             MatchOption result (size before ≡ 0) (λ _. 0 < size before) }
+        ensures succeeds { 0 < size (set_in B.Shape B.Order.Endian self.now.ready)
+            → IsSome result }
     {
         match self.ready.first_one_in::<B::Order>(self.turn, B::bits()) {
             Some(task) => Some(task),
@@ -190,6 +193,8 @@ impl<B: BitsOwned> RoundRobin<B> {
         ensures below { IfSome result (λ task. task < B.type_capacity) }
         ensures some { let before = set_in B.Shape B.Order.Endian self.old.ready in
             MatchOption result (size before ≡ 0) (λ _. 0 < size before) }
+        ensures succeeds { 0 < size (set_in B.Shape B.Order.Endian self.old.ready)
+            → IsSome result }
         ensures was_ready { IfSome result
             (λ task. is_ready (set_in B.Shape B.Order.Endian self.old.ready) task ≡ true) }
         ensures rests { IfSome result

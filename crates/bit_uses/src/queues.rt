@@ -1,6 +1,6 @@
 //! Callers of ready queues.
 
-ghost use Rattle.std.specs.Prelude.{◌≡◌, ◌≢◌, ◌<◌, length, IfSome, None, true, ℕ};
+ghost use Rattle.std.specs.Prelude.{◌≡◌, ◌≢◌, ◌<◌, length, IfSome, IsSome, IsTrue, None, true, ℕ};
 ghost use Rattle.std.specs.Prelude.{if◌then◌else◌, map, [], ◌∷◌, List};
 ghost use Rattle.bit_histories.specs.Histories.{IsHistory};
 ghost use Rattle.bit_queue.specs.Queue.{event_answers, most_urgent, runs_or_idle};
@@ -77,6 +77,21 @@ pub fn run_unless_empty<B: BitsOwned>(turns: &mut RoundRobin<B>) -> bool
     ensures { result ≡ true }
 {
     turns.is_empty() || turns.next().is_some()
+}
+
+/// Runs a task, and returns it. If at least one task is ready, one runs.
+pub fn run_one<B: BitsOwned>(queue: &mut PriorityQueue<B>) -> Option<u32>
+    ensures { 0 < size (set_in B.Shape B.Order.Endian queue.old.ready) → IsSome result }
+{
+    queue.next()
+}
+
+/// Counts the ready tasks of a new queue. The result is always 0.
+pub fn count_of_new<B: BitsOwned>() -> u32
+    requires { IsTrue B.indexable }
+    ensures { result ≡ 0 }
+{
+    PriorityQueue::<B>::new().len()
 }
 
 /// Returns how many tasks are ready in a queue that begins with the tasks of `mask`.

@@ -1,7 +1,8 @@
 //! Callers of an allocator of pages. What one call promises is what the next call requires. No
 //! caller has a proof file.
 
-ghost use Rattle.std.specs.Prelude.{◌≡◌, ◌≢◌, ◌+◌, ◌-◌, ◌<◌, ◌≤◌, IfSome, IsTrue, MatchOption};
+ghost use Rattle.std.specs.Prelude.{◌≡◌, ◌≢◌, ◌+◌, ◌-◌, ◌<◌, ◌≤◌, IfSome, IsSome, IsTrue};
+ghost use Rattle.std.specs.Prelude.{MatchOption};
 ghost use Rattle.std.specs.Prelude.{Some, false, length, true};
 ghost use Rattle.std.specs.Prelude.{if◌then◌else◌, map, slice_set, [], ◌∷◌, List};
 ghost use Rattle.bit_histories.specs.Histories.{IsCall, IsHistory, total};
@@ -10,6 +11,7 @@ ghost use Rattle.bit_pages.specs.Pages.{answer_to, state_after, is_run_free, is_
 ghost use Rattle.bit_pages.specs.Pages.{is_taken, least_free};
 ghost use Rattle.bit_pages.specs.Pages.{page_or_full, run_or_none};
 ghost use Rattle.bittle.specs.BitPatterns.{bit_set};
+ghost use Rattle.bittle.specs.Rows.{row_set};
 ghost use Rattle.bittle.specs.Values.{set_in};
 ghost use Rattle.bittle.specs.PlainSet.{PlainSet, empty_set, size};
 
@@ -213,7 +215,6 @@ pub fn count_of_map<B: BitsOwned>(map: B) -> u32
 }
 
 /// Counts the taken pages of a new allocator. The result is always 0.
-#[tactic(auto, using(bittle::proofs::CallerSets::size_empty))]
 pub fn count_of_new<B: BitsOwned>() -> u32
     requires { IsTrue B.indexable }
     ensures { result ≡ 0 }
@@ -514,6 +515,25 @@ pub fn give_back_and_take<B: BitsOwned>(pages: &mut Pages<B>, page: u32) -> bool
         Ok(()) => pages.take().is_some(),
         Err(_) => true,
     }
+}
+
+/// Gives back a page, whether it was taken or not, and takes the least free page. If `page` is a
+/// page, a page is found.
+pub fn recycle<B: BitsOwned>(pages: &mut Pages<B>, page: u32) -> Option<u32>
+    ensures { page < B.type_capacity → IsSome result }
+{
+    let _given = pages.give_back(page);
+    pages.take()
+}
+
+/// Returns a new allocator in which page 0 is taken, and no other.
+pub fn with_first_taken() -> Pages<[u64; 4]>
+    ensures taken { is_taken (row_set 4 64 (bit_set 64) result.map) 0 ≡ true }
+    ensures count { size (row_set 4 64 (bit_set 64) result.map) ≤ 1 }
+{
+    let mut pages = Pages::<[u64; 4]>::new();
+    pages.take_at(0);
+    pages
 }
 
 /// Gives back a page and then a run of pages, and returns whether each was taken. The clause says

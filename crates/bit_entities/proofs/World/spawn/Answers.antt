@@ -128,3 +128,12 @@ returns-clause-least_dead g c other below dead =
     (subst (λ (n : ℕ). IsFirstIn (complement alive) 0 n (Some c.in_ok-entity.entity))
     (bits ∙ sym capacity) c.in_ok-entity.ensures)
     other (omega (arith, below, capacity)) dead
+
+pub returns-in_err-entity-clause-succeeds : goal.returns-in_err-entity-clause-succeeds
+returns-in_err-entity-clause-succeeds g c room =
+    let alive : PlainSet = set_in g.B.Shape g.B.Order.Endian c.args.self.now.alive in
+    let capacity = g.met.B.FixedCapacity.one_capacity c.args.self.now.alive in
+    let bits = c.bits.ensures.value c.args.self.now.fits in
+    let full = none_is_full alive
+    (λ k p h. c.in_err-entity.ensures k p (omega (arith, capacity, bits, h))) in
+    absurd (omega (arith, room, capacity, full))

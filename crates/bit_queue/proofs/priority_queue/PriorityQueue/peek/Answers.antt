@@ -3,6 +3,7 @@ use Rattle.bittle.specs.PlainSet.{PlainSet}
 use Rattle.bittle.specs.Values.{set_in}
 use Rattle.bit_queue.specs.QueueLaws.{IsMostUrgent}
 use Rattle.bit_queue.proofs.Urgency.{most_urgent-found, urgent_found, found_counts}
+use Rattle.bit_queue.proofs.Urgency.{found_if_any}
 use Rattle.bit_queue.proofs.priority_queue.PriorityQueue.peek.Goals as goal
 
 pub returns-clause-task : goal.returns-clause-task
@@ -24,3 +25,6 @@ returns-clause-some g c =
     let capacity = g.met.B.FixedCapacity.one_capacity c.args.self.now.ready in
     found_counts s _ c.first_one_in.result (IsMostUrgent s) (sym capacity)
     (λ k urgent. (urgent.within, urgent.is_ready)) (returns-clause-urgent g c)
+
+pub returns-clause-succeeds : goal.returns-clause-succeeds
+returns-clause-succeeds g c = found_if_any _ c.first_one_in.result (returns-clause-some g c)

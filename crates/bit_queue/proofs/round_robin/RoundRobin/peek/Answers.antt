@@ -3,7 +3,7 @@ use Rattle.bittle.specs.PlainSet.{PlainSet}
 use Rattle.bittle.specs.Values.{set_in}
 use Rattle.bit_queue.specs.RoundRobin.{round_at}
 use Rattle.bit_queue.specs.RoundRobinLaws.{IsNextInTurn}
-use Rattle.bit_queue.proofs.Urgency.{found_counts}
+use Rattle.bit_queue.proofs.Urgency.{found_counts, found_if_any}
 use Rattle.bit_queue.proofs.Turns.{found_from_turn, found_before_turn, next_found}
 use Rattle.bit_queue.proofs.round_robin.RoundRobin.peek.Goals as goal
 
@@ -47,3 +47,7 @@ returns-in-None-clause-some g c =
     found_counts s _ c.first_one_in-in-None.result
     (IsNextInTurn (round_at s c.args.self.now.turn)) (sym capacity)
     (λ k next. (next.within, next.is_ready)) (returns-in-None-clause-next g c)
+
+pub returns-in-None-clause-succeeds : goal.returns-in-None-clause-succeeds
+returns-in-None-clause-succeeds g c =
+    found_if_any _ c.first_one_in-in-None.result (returns-in-None-clause-some g c)
