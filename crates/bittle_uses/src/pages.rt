@@ -290,7 +290,7 @@ pub fn borrow_chosen_run<B: BitsOwned>(pages: &mut Pages<B>, first: u32, length:
 }
 
 /// Takes two runs of pages that are chosen. Returns whether the second is refused or each page of
-/// the first is taken afterwards. The result is always `true` if the first run was free.
+/// the first is taken afterwards. The result is always `true`, also if the first run was not free.
 pub fn reserve_two_runs<B: BitsOwned>(
     pages: &mut Pages<B>,
     first: u32,
