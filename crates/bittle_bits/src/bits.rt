@@ -60,6 +60,7 @@ pub trait Bits: Drop + ReadWords {
     fn count_ones(&self) -> u32
         requires { ShapeFits Self.Shape self.now }
         ensures value { result ≡ size (Self.big self.now) }
+        ensures in_own_order { result ≡ size (set_in Self.Shape Self.Order.Endian self.now) }
         ensures in_each_order { (mirrored : Bool) →
             result ≡ size (set_mirrored Self.Shape mirrored self.now) }
         ensures at_most { result ≤ (Self.big self.now).capacity };
@@ -76,6 +77,8 @@ pub trait Bits: Drop + ReadWords {
     final fn count_zeros(&self) -> u32
         requires { ShapeFits Self.Shape self.now }
         ensures value { result ≡ (Self.big self.now).capacity - size (Self.big self.now) }
+        ensures in_own_order { result ≡ (Self.big self.now).capacity
+            - size (set_in Self.Shape Self.Order.Endian self.now) }
         ensures in_each_order { (mirrored : Bool) → result
             ≡ (Self.big self.now).capacity - size (set_mirrored Self.Shape mirrored self.now) }
         ensures at_most { result ≤ (Self.big self.now).capacity }
@@ -93,6 +96,8 @@ pub trait Bits: Drop + ReadWords {
     /// ```
     fn all_zeros(&self) -> bool
         ensures value { result ≡ (size (Self.big self.now) == 0) }
+        ensures in_own_order { result
+            ≡ (size (set_in Self.Shape Self.Order.Endian self.now) == 0) }
         ensures in_each_order { (mirrored : Bool) →
             result ≡ (size (set_mirrored Self.Shape mirrored self.now) == 0) };
 
@@ -106,6 +111,8 @@ pub trait Bits: Drop + ReadWords {
     /// ```
     fn all_ones(&self) -> bool
         ensures value { result ≡ (size (Self.big self.now) == (Self.big self.now).capacity) }
+        ensures in_own_order { result ≡ (size (set_in Self.Shape Self.Order.Endian self.now)
+            == (Self.big self.now).capacity) }
         ensures in_each_order { (mirrored : Bool) → result
             ≡ (size (set_mirrored Self.Shape mirrored self.now) == (Self.big self.now).capacity) };
 

@@ -61,6 +61,8 @@ pub trait BitsMut: Bits {
     /// ```
     fn clear_bits(&mut self)
         ensures set { Self.big self.new ≡ without_members (Self.big self.old) }
+        ensures in_own_order { set_in Self.Shape Self.Order.Endian self.new
+            ≡ without_members (set_in Self.Shape Self.Order.Endian self.old) }
         ensures in_each_order { (mirrored : Bool) → set_mirrored Self.Shape mirrored self.new
             ≡ without_members (set_mirrored Self.Shape mirrored self.old) }
         ensures stays { Self.loan self.old ≡ Self.loan self.new };
@@ -173,6 +175,9 @@ pub trait BitsMut: Bits {
         ensures union { (mirrored : Bool) → set_mirrored Self.Shape mirrored self.new
             ≡ union_of (set_mirrored Self.Shape mirrored self.old)
             (set_mirrored Self.Shape mirrored other.now) }
+        ensures in_own_order { set_in Self.Shape Self.Order.Endian self.new
+            ≡ union_of (set_in Self.Shape Self.Order.Endian self.old)
+            (set_in Self.Shape Self.Order.Endian other.now) }
         ensures stays { Self.loan self.old ≡ Self.loan self.new }
     {
         self.assign_by_operation::<Union>(other);
@@ -191,6 +196,9 @@ pub trait BitsMut: Bits {
         ensures conjunction { (mirrored : Bool) → set_mirrored Self.Shape mirrored self.new
             ≡ conjunction_of (set_mirrored Self.Shape mirrored self.old)
             (set_mirrored Self.Shape mirrored other.now) }
+        ensures in_own_order { set_in Self.Shape Self.Order.Endian self.new
+            ≡ conjunction_of (set_in Self.Shape Self.Order.Endian self.old)
+            (set_in Self.Shape Self.Order.Endian other.now) }
         ensures stays { Self.loan self.old ≡ Self.loan self.new }
     {
         self.assign_by_operation::<Conjunction>(other);
@@ -208,6 +216,9 @@ pub trait BitsMut: Bits {
         ensures difference { (mirrored : Bool) → set_mirrored Self.Shape mirrored self.new
             ≡ difference_of (set_mirrored Self.Shape mirrored self.old)
             (set_mirrored Self.Shape mirrored other.now) }
+        ensures in_own_order { set_in Self.Shape Self.Order.Endian self.new
+            ≡ difference_of (set_in Self.Shape Self.Order.Endian self.old)
+            (set_in Self.Shape Self.Order.Endian other.now) }
         ensures stays { Self.loan self.old ≡ Self.loan self.new }
     {
         self.assign_by_operation::<Difference>(other);
@@ -225,6 +236,9 @@ pub trait BitsMut: Bits {
         ensures symmetric_difference { (mirrored : Bool) → set_mirrored Self.Shape mirrored self.new
             ≡ symmetric_difference_of (set_mirrored Self.Shape mirrored self.old)
             (set_mirrored Self.Shape mirrored other.now) }
+        ensures in_own_order { set_in Self.Shape Self.Order.Endian self.new
+            ≡ symmetric_difference_of (set_in Self.Shape Self.Order.Endian self.old)
+            (set_in Self.Shape Self.Order.Endian other.now) }
         ensures stays { Self.loan self.old ≡ Self.loan self.new }
     {
         self.assign_by_operation::<SymmetricDifference>(other);

@@ -43,6 +43,8 @@ pub trait BitsOwned: Copy + Eq + BitsMut + FixedCapacity {
     fn zeros() -> Self
         requires { IsTrue Self.indexable }
         ensures value { Self.big result ≡ empty_set Self.type_capacity }
+        ensures in_own_order { set_in Self.Shape Self.Order.Endian result
+            ≡ empty_set Self.type_capacity }
         ensures in_each_order { (mirrored : Bool) →
             set_mirrored Self.Shape mirrored result ≡ empty_set Self.type_capacity };
 
@@ -203,9 +205,12 @@ pub trait BitsOwned: Copy + Eq + BitsMut + FixedCapacity {
     /// ```
     #[inline]
     final fn union(self, other: Self) -> Self
-        ensures { (mirrored : Bool) → set_mirrored Self.Shape mirrored result
+        ensures in_each_order { (mirrored : Bool) → set_mirrored Self.Shape mirrored result
             ≡ union_of (set_mirrored Self.Shape mirrored self)
             (set_mirrored Self.Shape mirrored other) }
+        ensures in_own_order { set_in Self.Shape Self.Order.Endian result
+            ≡ union_of (set_in Self.Shape Self.Order.Endian self)
+            (set_in Self.Shape Self.Order.Endian other) }
     {
         let mut set = self;
         set.union_assign(&other);
@@ -220,9 +225,12 @@ pub trait BitsOwned: Copy + Eq + BitsMut + FixedCapacity {
     /// ```
     #[inline]
     final fn conjunction(self, other: Self) -> Self
-        ensures { (mirrored : Bool) → set_mirrored Self.Shape mirrored result
+        ensures in_each_order { (mirrored : Bool) → set_mirrored Self.Shape mirrored result
             ≡ conjunction_of (set_mirrored Self.Shape mirrored self)
             (set_mirrored Self.Shape mirrored other) }
+        ensures in_own_order { set_in Self.Shape Self.Order.Endian result
+            ≡ conjunction_of (set_in Self.Shape Self.Order.Endian self)
+            (set_in Self.Shape Self.Order.Endian other) }
     {
         let mut set = self;
         set.conjunction_assign(&other);
@@ -237,9 +245,12 @@ pub trait BitsOwned: Copy + Eq + BitsMut + FixedCapacity {
     /// ```
     #[inline]
     final fn difference(self, other: Self) -> Self
-        ensures { (mirrored : Bool) → set_mirrored Self.Shape mirrored result
+        ensures in_each_order { (mirrored : Bool) → set_mirrored Self.Shape mirrored result
             ≡ difference_of (set_mirrored Self.Shape mirrored self)
             (set_mirrored Self.Shape mirrored other) }
+        ensures in_own_order { set_in Self.Shape Self.Order.Endian result
+            ≡ difference_of (set_in Self.Shape Self.Order.Endian self)
+            (set_in Self.Shape Self.Order.Endian other) }
     {
         let mut set = self;
         set.difference_assign(&other);
@@ -254,9 +265,12 @@ pub trait BitsOwned: Copy + Eq + BitsMut + FixedCapacity {
     /// ```
     #[inline]
     final fn symmetric_difference(self, other: Self) -> Self
-        ensures { (mirrored : Bool) → set_mirrored Self.Shape mirrored result
+        ensures in_each_order { (mirrored : Bool) → set_mirrored Self.Shape mirrored result
             ≡ symmetric_difference_of (set_mirrored Self.Shape mirrored self)
             (set_mirrored Self.Shape mirrored other) }
+        ensures in_own_order { set_in Self.Shape Self.Order.Endian result
+            ≡ symmetric_difference_of (set_in Self.Shape Self.Order.Endian self)
+            (set_in Self.Shape Self.Order.Endian other) }
     {
         let mut set = self;
         set.symmetric_difference_assign(&other);

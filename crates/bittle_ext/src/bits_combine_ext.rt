@@ -195,6 +195,8 @@ pub trait BitsCombineExt: BitsMut {
     final fn set_all(&mut self)
         requires { ShapeFits Self.Shape self.old }
         ensures set { Self.big self.new ≡ full_set (Self.big self.old).capacity }
+        ensures in_own_order { set_in Self.Shape Self.Order.Endian self.new
+            ≡ full_set (Self.big self.old).capacity }
         ensures in_each_order { (mirrored : Bool) → set_mirrored Self.Shape mirrored self.new
             ≡ full_set (Self.big self.old).capacity }
         ensures stays { Self.loan self.old ≡ Self.loan self.new }

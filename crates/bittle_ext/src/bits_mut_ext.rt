@@ -215,6 +215,8 @@ pub trait BitsMutExt: BitsMut + Sized {
     final fn complement_assign(&mut self)
         requires { ShapeFits Self.Shape self.old }
         ensures set { Self.big self.new ≡ complement (Self.big self.old) }
+        ensures in_own_order { set_in Self.Shape Self.Order.Endian self.new
+            ≡ complement (set_in Self.Shape Self.Order.Endian self.old) }
         ensures in_each_order { (mirrored : Bool) → set_mirrored Self.Shape mirrored self.new
             ≡ complement (set_mirrored Self.Shape mirrored self.old) }
         ensures count { size (Self.big self.new) + size (Self.big self.old)

@@ -32,6 +32,8 @@ pub trait BitsOwnedExt: BitsOwned {
     final fn complement(self) -> Self
         requires { IsTrue Self.indexable }
         ensures value { Self.big result ≡ complement (Self.big self) }
+        ensures in_own_order { set_in Self.Shape Self.Order.Endian result
+            ≡ complement (set_in Self.Shape Self.Order.Endian self) }
         ensures in_each_order { (mirrored : Bool) → set_mirrored Self.Shape mirrored result
             ≡ complement (set_mirrored Self.Shape mirrored self) }
     {

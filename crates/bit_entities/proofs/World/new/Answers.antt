@@ -6,4 +6,5 @@ use Rattle.bit_entities.proofs.World.new.Goals as goal
 
 pub returns-clause-count : goal.returns-clause-count
 returns-clause-count g c =
-    ap size (ap (set_in g.B.Shape g.B.Order.Endian) c.with_alive.ensures.alive ∙ c.zeros.ensures.in_each_order g.B.Order.Endian.mirrored) ∙ size_empty _
+    ap size (ap (set_in g.B.Shape g.B.Order.Endian) c.with_alive.ensures.alive
+    ∙ c.zeros.ensures.in_own_order) ∙ size_empty _

@@ -16,7 +16,7 @@ returns-in-Some g c ends =
     let capacity = g.met.B.FixedCapacity.one_capacity c.args.mask in
     let other = g.met.B.FixedCapacity.one_capacity c.in-Some.those.now in
     let found = c.in-Some.ensures.lookup in
-    c.conjunction.ensures g.B.Order.Endian.mirrored
+    c.conjunction.ensures.in_own_order
     ∙ kept_by_mask w s t c.args.component (capacity ∙ sym other) ends
     (λ k. ap (λ o. is_in (set_in g.B.Shape g.B.Order.Endian) o k)
     (sym (slice_get_read masks (length masks) c.args.component c.in-Some.those.now refl found.3.0
@@ -28,7 +28,7 @@ returns-in-None g c ends =
     let w : World = world_of g.row.N (set_in g.B.Shape g.B.Order.Endian) c.args.self.now.alive
     masks in
     let s : PlainSet = set_in g.B.Shape g.B.Order.Endian c.args.mask in
-    c.zeros.ensures.in_each_order g.B.Order.Endian.mirrored
+    c.zeros.ensures.in_own_order
     ∙ kept_by_none w s c.args.component _ (sym (g.met.B.FixedCapacity.one_capacity c.args.mask))
     (λ k. ap (λ o. is_in (set_in g.B.Shape g.B.Order.Endian) o k)
     (slice_get_past masks c.args.component c.in-None.ensures.lookup.3))

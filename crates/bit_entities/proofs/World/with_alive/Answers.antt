@@ -9,7 +9,7 @@ use Rattle.bit_entities.proofs.World.with_alive.Goals as goal
 pub returns-clause-world : goal.returns-clause-world
 returns-clause-world g c =
     bare_is g.row.N (set_in g.B.Shape g.B.Order.Endian) c.args.alive c.zeros.result
-    (λ k. ap (λ s. s.has k) (c.zeros.ensures.in_each_order g.B.Order.Endian.mirrored))
+    (λ k. ap (λ s. s.has k) c.zeros.ensures.in_own_order)
 
 pub invariant_of-result-clause-sound : goal.invariant_of-result-clause-sound
 invariant_of-result-clause-sound g c =
@@ -19,5 +19,5 @@ invariant_of-result-clause-sound g c =
     (words.whole_words c.args.alive) (words.none_past c.args.alive) in
     subst IsWorld (sym (bare_is g.row.N (set_in g.B.Shape g.B.Order.Endian) c.args.alive
     c.zeros.result (λ k. ap (λ s. s.has k)
-    (c.zeros.ensures.in_each_order g.B.Order.Endian.mirrored))))
+    c.zeros.ensures.in_own_order)))
     (bare_is_world alive g.row.N ends)

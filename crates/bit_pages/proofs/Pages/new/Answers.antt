@@ -5,4 +5,4 @@ use Rattle.bit_pages.proofs.Pages.new.Goals as goal
 
 pub returns-clause-count : goal.returns-clause-count
 returns-clause-count g c =
-    ap size (c.with_taken.ensures.set ∙ c.zeros.ensures.in_each_order g.B.Order.Endian.mirrored) ∙ size_empty _
+    ap size (c.with_taken.ensures.set ∙ c.zeros.ensures.in_own_order) ∙ size_empty _

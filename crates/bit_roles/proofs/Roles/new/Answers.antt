@@ -9,7 +9,7 @@ invariant_of-result-clause-lesser g c = none_lesser g.row.N
 pub returns-clause-roles : goal.returns-clause-roles
 returns-clause-roles g c =
     rows_are_bare g.row.N _ (set_in g.B.Shape g.B.Order.Endian) c.zeros.result
-    (λ p. ap (λ s. s.has p) (c.zeros.ensures.in_each_order g.B.Order.Endian.mirrored))
+    (λ p. ap (λ s. s.has p) c.zeros.ensures.in_own_order)
 
 pub returns-clause-none : goal.returns-clause-none
 returns-clause-none g c role permission =

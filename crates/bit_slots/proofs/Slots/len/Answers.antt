@@ -9,7 +9,7 @@ use Rattle.bit_slots.proofs.Slots.len.Goals as goal
 pub returns-clause-count : goal.returns-clause-count
 returns-clause-count g c =
     let live : PlainSet = set_in g.B.Shape g.B.Order.Endian c.args.self.now.live in
-    c.count_ones.ensures.in_each_order g.B.Order.Endian.mirrored ∙ size_where is_live live _ _
+    c.count_ones.ensures.in_own_order ∙ size_where is_live live _ _
     (g.met.B.FixedCapacity.one_capacity c.args.self.now.live) c.args.self.now.marks_live
 
 pub returns-clause-at_most : goal.returns-clause-at_most

@@ -5,4 +5,4 @@ use Rattle.bittle_uses.proofs.relations.is_disjoint.Goals as goal
 pub returns : goal.returns
 returns g c = tells _ _ g.met.B.FixedCapacity.one_capacity g.met.B.ReadWords.none_past _ _
     none_common refl _ _
-    (c.conjunction.ensures false) c.all_zeros.ensures.value
+    (c.conjunction.ensures.in_each_order false) c.all_zeros.ensures.value

@@ -5,4 +5,4 @@ use Rattle.bittle_uses.proofs.relations.is_subset.Goals as goal
 pub returns : goal.returns
 returns g c = tells _ _ g.met.B.FixedCapacity.one_capacity g.met.B.ReadWords.none_past _ _
     none_alone refl _ _
-    (c.difference.ensures false) c.all_zeros.ensures.value
+    (c.difference.ensures.in_each_order false) c.all_zeros.ensures.value

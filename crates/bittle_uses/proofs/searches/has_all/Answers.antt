@@ -7,7 +7,7 @@ use Rattle.bittle_uses.proofs.searches.has_all.Goals as goal
 pub returns : goal.returns
 returns g c =
     let members = set_in g.B.Shape g.B.Order.Endian c.args.set.now in
-    let told = c.all_ones.ensures.in_each_order g.B.Order.Endian.mirrored in (
+    let told = c.all_ones.ensures.in_own_order in (
       λ yes. size_full members (eqb-true _ _ (sym told ∙ yes)),
       λ all. told ∙ eq-eqb _ _ (size_whole members all),
     )

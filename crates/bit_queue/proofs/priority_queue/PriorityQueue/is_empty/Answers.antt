@@ -8,7 +8,4 @@ returns-clause-none g c =
     let ready = c.args.self.now.ready in
     let capacity = g.met.B.FixedCapacity.one_capacity ready in
     none_ready (set_in g.B.Shape g.B.Order.Endian ready) g.B.Shape.type_capacity c.all_zeros.result
-    (sym capacity) (c.all_zeros.ensures.in_each_order g.B.Order.Endian.mirrored)
-
-pub returns-clause-count : goal.returns-clause-count
-returns-clause-count g c = c.all_zeros.ensures.in_each_order g.B.Order.Endian.mirrored
+    (sym capacity) c.all_zeros.ensures.in_own_order

@@ -7,4 +7,4 @@ use Rattle.bit_queue.proofs.round_robin.RoundRobin.new.Goals as goal
 pub returns-clause-count : goal.returns-clause-count
 returns-clause-count g c =
     ap size (ap (set_in g.B.Shape g.B.Order.Endian) c.with_ready.ensures.ready
-    ∙ c.zeros.ensures.in_each_order g.B.Order.Endian.mirrored) ∙ size_empty _
+    ∙ c.zeros.ensures.in_own_order) ∙ size_empty _

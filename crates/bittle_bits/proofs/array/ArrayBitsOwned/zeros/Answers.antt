@@ -8,3 +8,6 @@ returns-clause-value g c = row_set-replicate _ _ g.T.Shape.big _ c.zeros.ensures
 
 pub returns-clause-in_each_order : goal.returns-clause-in_each_order
 returns-clause-in_each_order g c m = ap (read_in m _) (returns-clause-value g c)
+
+pub returns-clause-in_own_order : goal.returns-clause-in_own_order
+returns-clause-in_own_order g c = returns-clause-value g c

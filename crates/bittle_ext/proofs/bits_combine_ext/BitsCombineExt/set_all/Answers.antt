@@ -17,3 +17,6 @@ returns-clause-in_each_order g c m =
     let old = c.args.self.now in
     full_set_in_each_order _ _ _ g.met.Self.ReadWords.width_positive
     (g.met.Self.ReadWords.whole_words old) (returns-clause-set g c) m
+
+pub returns-clause-in_own_order : goal.returns-clause-in_own_order
+returns-clause-in_own_order g c = returns-clause-in_each_order g c _

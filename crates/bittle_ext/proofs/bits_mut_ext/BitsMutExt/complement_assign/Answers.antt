@@ -25,3 +25,6 @@ pub returns-clause-count : goal.returns-clause-count
 returns-clause-count g c =
     let old = g.Self.Shape.big c.args.self.now in
     ap (λ s. size s + size old) (returns-clause-set g c) ∙ size-complement old
+
+pub returns-clause-in_own_order : goal.returns-clause-in_own_order
+returns-clause-in_own_order g c = returns-clause-in_each_order g c _

@@ -7,9 +7,12 @@ use Rattle.bittle_ext.proofs.bits_owned_ext.BitsOwnedExt.complement.Goals as goa
 pub returns-clause-in_each_order : goal.returns-clause-in_each_order
 returns-clause-in_each_order g c m =
     let s = set_mirrored g.Self.Shape m c.args.self in
-    c.difference.ensures m
+    c.difference.ensures.in_each_order m
     ∙ ap (λ u. combination_of first_alone u s) (c.ones.ensures.in_each_order m)
     ∙ full_without _ s (g.met.Self.FixedCapacity.one_capacity c.args.self)
 
 pub returns-clause-value : goal.returns-clause-value
 returns-clause-value g c = returns-clause-in_each_order g c false
+
+pub returns-clause-in_own_order : goal.returns-clause-in_own_order
+returns-clause-in_own_order g c = returns-clause-in_each_order g c _

@@ -15,3 +15,6 @@ returns-else-ONES-clause-in_each_order g c =
     size_in_each_order g.B.Shape.width big (λ n. n == big.capacity) c.all_words_have_none.result
     g.met.B.ReadWords.width_positive (g.met.B.ReadWords.whole_words _)
     (returns-else-ONES-clause-value g c)
+
+pub returns-else-ONES-clause-in_own_order : goal.returns-else-ONES-clause-in_own_order
+returns-else-ONES-clause-in_own_order g c = returns-else-ONES-clause-in_each_order g c _

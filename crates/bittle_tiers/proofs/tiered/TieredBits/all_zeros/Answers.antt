@@ -8,3 +8,6 @@ returns-then-ONES-clause-in_each_order g c =
     size_in_each_order g.B.Shape.width (g.B.Shape.big c.args.self.now.map) (λ n. n == 0)
     c.all_words_have_none.result g.met.B.ReadWords.width_positive (g.met.B.ReadWords.whole_words _)
     (rw ones at c.all_words_have_none.ensures)
+
+pub returns-then-ONES-clause-in_own_order : goal.returns-then-ONES-clause-in_own_order
+returns-then-ONES-clause-in_own_order g c = returns-then-ONES-clause-in_each_order g c _

@@ -8,6 +8,6 @@ pub returns : goal.returns
 returns g c = λ mirrored.
     let s = set_mirrored g.T.Shape mirrored c.args.bits in
     ap (set_mirrored g.T.Shape mirrored) c.new_in.ensures
-    ∙ c.difference.ensures mirrored
+    ∙ c.difference.ensures.in_each_order mirrored
     ∙ ap (λ full. difference_of full s) (c.ones.ensures.in_each_order mirrored)
     ∙ full_without g.T.Shape.type_capacity s (g.met.T.FixedCapacity.one_capacity c.args.bits)

@@ -15,3 +15,6 @@ returns-clause-in_each_order g c =
     let v = c.args.self.now.set.now in
     size_in_each_order _ (complement (g.B.Shape.big v)) (λ n. n) _
     g.met.B.ReadWords.width_positive (g.met.B.ReadWords.whole_words v) (returns-clause-value g c)
+
+pub returns-clause-in_own_order : goal.returns-clause-in_own_order
+returns-clause-in_own_order g c = returns-clause-in_each_order g c _

@@ -26,3 +26,6 @@ pub returns-clause-in_each_order : goal.returns-clause-in_each_order
 returns-clause-in_each_order g c = size_in_each_order _ _ (λ n. n) _
     g.met.B.ReadWords.width_positive (g.met.B.ReadWords.whole_words c.args.self.now.set.now)
     (returns-clause-value g c)
+
+pub returns-clause-in_own_order : goal.returns-clause-in_own_order
+returns-clause-in_own_order g c = returns-clause-in_each_order g c _

@@ -1,0 +1,4 @@
+use Rattle.bittle_bits.proofs.bits_mut.BitsMut.union_assign.Goals as goal
+
+pub returns-clause-in_own_order : goal.returns-clause-in_own_order
+returns-clause-in_own_order g c = c.assign_by_operation.ensures.set _

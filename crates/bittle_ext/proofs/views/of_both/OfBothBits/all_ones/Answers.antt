@@ -1,0 +1,4 @@
+use Rattle.bittle_ext.proofs.views.of_both.OfBothBits.all_ones.Goals as goal
+
+pub returns-clause-in_own_order : goal.returns-clause-in_own_order
+returns-clause-in_own_order g c = c.is_full.ensures.in_each_order _
