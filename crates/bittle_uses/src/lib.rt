@@ -12,6 +12,7 @@ pub mod keys;
 pub mod lent;
 pub mod macro_lists;
 pub mod nested;
+pub mod own_order;
 pub mod pages;
 pub mod permissions;
 pub mod ranks;
