@@ -40,19 +40,20 @@ ancestor_none r role (suc n) e = ap (parent_of r) (ancestor_none r role n e)
 -- a role allows what it was granted
 pub allows_granted : (r : Roles) (role permission : ℕ) → r.granted role permission ≡ true →
     Allows r role permission
-unfolding ancestor
+unfolding ancestor Allows
 allows_granted r role permission e = (zero, role, refl, e)
 
 -- a role allows what its parent allows
 pub allows_up : (r : Roles) (role parent permission : ℕ) → r.parent role ≡ Some parent →
     Allows r parent permission → Allows r role permission
+unfolding Allows
 allows_up r role parent permission e a =
     (suc a.0, a.1, ancestor_up r role parent a.0 e ∙ a.2, a.3)
 
 -- if a role allows a permission that it was not granted, its parent allows the permission
 pub allows_down : (r : Roles) (role parent permission : ℕ) → r.parent role ≡ Some parent →
     r.granted role permission ≡ false → Allows r role permission → Allows r parent permission
-unfolding ancestor
+unfolding ancestor Allows
 allows_down r role parent permission e none (zero, other, is, granted) =
     let same : role ≡ other = cc in
     absurd (cc)
@@ -62,7 +63,7 @@ allows_down r role parent permission e none (suc n, other, is, granted) =
 -- without a parent a role allows just what it was granted
 pub allows_nothing : (r : Roles) (role permission : ℕ) → r.parent role ≡ None →
     r.granted role permission ≡ false → Allows r role permission → ⊥
-unfolding ancestor
+unfolding ancestor Allows
 allows_nothing r role permission e none (zero, other, is, granted) =
     let same : role ≡ other = cc in
     cc
@@ -144,6 +145,7 @@ still_true false b e = e
 -- what is allowed is still allowed after a grant
 pub stays_allowed : (r : Roles) (role permission other allowed : ℕ) → Allows r other allowed →
     Allows (roles_after r (Grant role permission)) other allowed
+unfolding Allows
 stays_allowed r role permission other allowed a = by (are_there r role permission)
   where
     by : (b : Bool) → Allows (cond b (with_granted r role permission true) r) other allowed
@@ -315,6 +317,7 @@ pub grant_gives : (r : Roles) (role permission other allowed : ℕ) →
     answer_to r (Grant role permission) ≡ Done →
     Allows (roles_after r (Grant role permission)) other allowed
     ↔ (Allows r other allowed ⊎ ((allowed ≡ permission) × LeadsTo r other role))
+unfolding Allows LeadsTo
 grant_gives r role permission other allowed = by (are_there r role permission)
   where
     chain : (n : ℕ) → ancestor (with_granted r role permission true) other n ≡ ancestor r other n
@@ -390,6 +393,7 @@ chain_up_to r role parent other (suc n) none =
 pub others_allow_same : (r : Roles) (may : Bool) (role : ℕ) (parent : Option ℕ)
     (other allowed : ℕ) → (LeadsTo r other role → ⊥) →
     Allows (cond may (with_parent r role parent) r) other allowed ↔ Allows r other allowed
+unfolding Allows LeadsTo
 others_allow_same r may role parent other allowed apart =
     in_both (λ s. Allows s other allowed ↔ Allows r other allowed) may
     (with_parent r role parent) r (
@@ -407,11 +411,40 @@ parent_now r true role parent e =
     ap (λ b. cond b parent (r.parent role)) (eq-eqb role role refl)
 parent_now r false role parent e = absurd (cc)
 
+-- from a role that was given a parent, chains of parents lead where they led from the parent
+pub leads_as_parent : (r : Roles) (may : Bool) (role parent other : ℕ) → HasLesserParents r →
+    cond may Done Refused ≡ Done → parent < role → LeadsTo r parent other →
+    LeadsTo (cond may (with_parent r role (Some parent)) r) role other
+unfolding LeadsTo
+leads_as_parent r false role parent other lesser done below leads = absurd (cc)
+leads_as_parent r true role parent other lesser done below leads = (
+  suc leads.0,
+  ancestor_up (with_parent r role (Some parent)) role parent leads.0
+      (parent_now r true role (Some parent) refl)
+      ∙ chain_up_to r role (Some parent) parent leads.0
+      (λ m h is. omega (arith, below, chain_goes_down r parent m role lesser is))
+      ∙ leads.1,
+)
+
+-- a new parent of a role changes no chain of parents that begins at a role with a lesser number
+pub lesser_still_lead : (r : Roles) (may : Bool) (role parent other to : ℕ) →
+    HasLesserParents r → other < role → LeadsTo r other to →
+    LeadsTo (cond may (with_parent r role (Some parent)) r) other to
+unfolding LeadsTo
+lesser_still_lead r false role parent other to lesser below leads = leads
+lesser_still_lead r true role parent other to lesser below leads = (
+  leads.0,
+  chain_up_to r role (Some parent) other leads.0
+      (λ m h is. omega (arith, below, chain_goes_down r other m role lesser is))
+      ∙ leads.1,
+)
+
 -- a role that was given a parent allows what it was granted and what the parent allowed
 pub inherit_gives : (r : Roles) (role parent allowed : ℕ) → HasLesserParents r →
     answer_to r (Inherit role parent) ≡ Done →
     Allows (roles_after r (Inherit role parent)) role allowed
     ↔ ((r.granted role allowed ≡ true) ⊎ Allows r parent allowed)
+unfolding LeadsTo
 inherit_gives r role parent allowed lesser done =
     let after : Roles = roles_after r (Inherit role parent) in
     let below : parent < role = ((done_exactly r (Inherit role parent)).0 done).1 in
@@ -501,6 +534,7 @@ later_place r other role m (suc n) is h = elim (cases_lt m (suc n)) [
 up_to_or_past : (r : Roles) (role other permission : ℕ) → Allows r other permission →
     AllowsUpTo r role other permission ⊎ ((m : ℕ) × (ancestor r other m ≡ Some role)
     × ((l : ℕ) → l < m → ancestor r other l ≡ Some role → ⊥) × Allows r role permission)
+unfolding Allows
 up_to_or_past r role other permission a = elim (first_place r role other a.0) [
   | inr none ↦ inl (a.0, a.1, a.2, a.3, none)
   | inl found ↦
@@ -511,6 +545,7 @@ up_to_or_past r role other permission a = elim (first_place r role other a.0) [
 -- a chain of parents that leads to a role still does so after that role is given a parent
 still_leads : (r : Roles) (role parent other : ℕ) → LeadsTo r other role →
     (m : ℕ) × (ancestor (with_parent r role (Some parent)) other m ≡ Some role)
+unfolding LeadsTo
 still_leads r role parent other leads = elim (first_place r role other (suc leads.0)) [
   | inl found ↦ (found.0, chain_up_to r role (Some parent) other found.0 found.3 ∙ found.2)
   | inr none ↦ absurd (none leads.0 (omega arith) leads.1)
@@ -520,6 +555,7 @@ still_leads r role parent other leads = elim (first_place r role other (suc lead
 pub up_to_stays : (r : Roles) (role : ℕ) (parent : Option ℕ) (other allowed : ℕ) →
     AllowsUpTo r role other allowed →
     Allows (with_parent r role parent) other allowed
+unfolding Allows
 up_to_stays r role parent other allowed a =
     (a.0, a.1, chain_up_to r role parent other a.0 a.4 ∙ a.2, a.3)
 
@@ -529,6 +565,7 @@ pub inherit_replaces : (r : Roles) (role parent other allowed : ℕ) → HasLess
     answer_to r (Inherit role parent) ≡ Done →
     Allows (roles_after r (Inherit role parent)) other allowed
     ↔ (AllowsUpTo r role other allowed ⊎ (LeadsTo r other role × Allows r parent allowed))
+unfolding Allows LeadsTo
 inherit_replaces r role parent other allowed lesser done =
     by (may_inherit r role parent) done (inherit_gives r role parent allowed lesser done)
   where
@@ -574,6 +611,7 @@ pub inherit_changes_only : (r : Roles) (role parent other allowed : ℕ) → Has
     Allows r other allowed ⊎ (LeadsTo r other role × Allows r parent allowed))
     × (Allows r other allowed →
     Allows after other allowed ⊎ (LeadsTo r other role × Allows r role allowed))
+unfolding Allows LeadsTo
 inherit_changes_only r role parent other allowed lesser =
     by (answer_to r (Inherit role parent)) refl
   where

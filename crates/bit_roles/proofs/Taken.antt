@@ -28,20 +28,23 @@ not_both k role p permission apart = elim (cases_eq k role) [
 
 -- a permission that a role of the chain holds, and that was not taken from this role, is still
 -- allowed after a revoke
-pub still_held : (r : Roles) (role permission other allowed : ℕ) (a : Allows r other allowed) →
-    ((a.1 ≡ role) × (allowed ≡ permission) → ⊥) →
+pub still_held : (r : Roles) (role permission other allowed n holder : ℕ) →
+    ancestor r other n ≡ Some holder → r.granted holder allowed ≡ true →
+    ((holder ≡ role) × (allowed ≡ permission) → ⊥) →
     Allows (changed r role permission false) other allowed
-still_held r role permission other allowed a apart = by (are_there r role permission)
+unfolding Allows
+still_held r role permission other allowed n holder is has apart =
+    by (are_there r role permission)
   where
     by : (b : Bool) → Allows (cond b (with_granted r role permission false) r) other allowed
     by true = (
-      a.0,
-      a.1,
-      same_chain r role permission false other a.0 ∙ a.2,
-      ap (λ b. cond b false (r.granted a.1 allowed))
-          (not_both a.1 role allowed permission apart) ∙ a.3,
+      n,
+      holder,
+      same_chain r role permission false other n ∙ is,
+      ap (λ b. cond b false (r.granted holder allowed))
+          (not_both holder role allowed permission apart) ∙ has,
     )
-    by false = a
+    by false = (n, holder, is, has)
 
 -- what each role allows after a revoke, as `RevokesTakeJustTheirPermission` states
 pub revoke_takes : (r : Roles) (role permission other allowed : ℕ) →
@@ -49,9 +52,10 @@ pub revoke_takes : (r : Roles) (role permission other allowed : ℕ) →
     Allows (roles_after r (Revoke role permission)) other allowed
     ↔ ((holder : ℕ) × LeadsTo r other holder × (r.granted holder allowed ≡ true)
     × ((holder ≡ role) × (allowed ≡ permission) → ⊥))
+unfolding Allows LeadsTo
 revoke_takes r role permission other allowed done = (
   by (are_there r role permission) done,
-  λ h. still_held r role permission other allowed (h.1.0, h.0, h.1.1, h.2) h.3,
+  λ h. still_held r role permission other allowed h.1.0 h.0 h.1.1 h.2 h.3,
 )
   where
     by : (b : Bool) → cond b Done Refused ≡ Done →
@@ -72,6 +76,7 @@ revoke_takes r role permission other allowed done = (
 -- after a revoke no role allows more than before
 pub none_gains : (r : Roles) (role permission other allowed : ℕ) →
     Allows (roles_after r (Revoke role permission)) other allowed → Allows r other allowed
+unfolding Allows
 none_gains r role permission other allowed = by (are_there r role permission)
   where
     by : (b : Bool) → Allows (cond b (with_granted r role permission false) r) other allowed →
@@ -88,9 +93,10 @@ none_gains r role permission other allowed = by (are_there r role permission)
 pub others_keep : (r : Roles) (role permission other allowed : ℕ) →
     (LeadsTo r other role → ⊥) →
     Allows (roles_after r (Revoke role permission)) other allowed ↔ Allows r other allowed
+unfolding Allows LeadsTo
 others_keep r role permission other allowed apart = (
   none_gains r role permission other allowed,
-  λ a. still_held r role permission other allowed a
+  λ a. still_held r role permission other allowed a.0 a.1 a.2 a.3
       (λ both. apart (a.0, a.2 ∙ ap Some both.0)),
 )
 
@@ -99,6 +105,7 @@ pub still_inherited : (r : Roles) (role permission : ℕ) → HasLesserParents r
     permission < r.permissions →
     Allows (roles_after r (Revoke role permission)) role permission
     ↔ ((parent : ℕ) × (r.parent role ≡ Some parent) × Allows r parent permission)
+unfolding LeadsTo
 still_inherited r role permission lesser h l =
     let after : Roles = roles_after r (Revoke role permission) in (
       λ a. elim ((allows_by_parent after role permission).0 a) [
@@ -128,6 +135,7 @@ still_inherited r role permission lesser h l =
 -- `ClearingAParentTakesWhatWasInherited` states
 pub clear_takes : (r : Roles) (role other allowed : ℕ) → answer_to r (ClearParent role) ≡ Done →
     Allows (roles_after r (ClearParent role)) other allowed ↔ AllowsUpTo r role other allowed
+unfolding Allows
 clear_takes r role other allowed = by (nat_lt role r.count)
   where
     after : Roles
@@ -183,6 +191,7 @@ clear_leaves_own r role allowed h =
 -- after a role lost its parent no role allows more than before
 pub none_gains_by_clearing : (r : Roles) (role other allowed : ℕ) →
     Allows (roles_after r (ClearParent role)) other allowed → Allows r other allowed
+unfolding Allows
 none_gains_by_clearing r role other allowed a = by (answer_to r (ClearParent role)) refl
   where
     by : (answer : Answer) → answer_to r (ClearParent role) ≡ answer → Allows r other allowed

@@ -28,12 +28,14 @@ unfoldable pub ancestor : Roles → ℕ → ℕ → Option ℕ
 ancestor r role zero = Some role
 ancestor r role (suc n) = parent_of r (ancestor r role n)
 
--- a chain of parents leads from one role to the other, or both are the same role
-abbrev pub LeadsTo : Roles → ℕ → ℕ → Type 0
+-- a chain of parents leads from one role to the other, or both are the same role; the proof of a
+-- caller takes it whole
+unfoldable pub LeadsTo : Roles → ℕ → ℕ → Type 0
 LeadsTo r role other = (n : ℕ) × (ancestor r role n ≡ Some other)
 
--- the role itself, or a role that a chain of its parents leads to, was granted the permission
-abbrev pub Allows : Roles → ℕ → ℕ → Type 0
+-- the role itself, or a role that a chain of its parents leads to, was granted the permission; the
+-- proof of a caller takes it whole
+unfoldable pub Allows : Roles → ℕ → ℕ → Type 0
 Allows r role permission =
     (n : ℕ) × (other : ℕ) × (ancestor r role n ≡ Some other) × (r.granted other permission ≡ true)
 

@@ -238,6 +238,16 @@ impl<B: BitsOwned, const N: usize> Roles<B, N> {
             self.new.granted self.new.parents in IsOk result → after.parent role ≡ Some parent }
         ensures leads { let after = roles_of N B.type_capacity (set_in B.Shape B.Order.Endian)
             self.new.granted self.new.parents in IsOk result → LeadsTo after role parent }
+        ensures leads_on { let before = roles_of N B.type_capacity
+            (set_in B.Shape B.Order.Endian) self.old.granted self.old.parents in
+            let after = roles_of N B.type_capacity (set_in B.Shape B.Order.Endian)
+            self.new.granted self.new.parents in (other : ℕ) → IsOk result
+            → LeadsTo before parent other → LeadsTo after role other }
+        ensures lesser_still_lead { let before = roles_of N B.type_capacity
+            (set_in B.Shape B.Order.Endian) self.old.granted self.old.parents in
+            let after = roles_of N B.type_capacity (set_in B.Shape B.Order.Endian)
+            self.new.granted self.new.parents in (other to : ℕ) → other < role
+            → LeadsTo before other to → LeadsTo after other to }
         ensures others { let before = roles_of N B.type_capacity
             (set_in B.Shape B.Order.Endian) self.old.granted self.old.parents in
             let after = roles_of N B.type_capacity (set_in B.Shape B.Order.Endian)

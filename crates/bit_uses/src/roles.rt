@@ -1,9 +1,11 @@
 //! Callers of roles.
 
-ghost use Rattle.std.specs.Prelude.{◌≡◌, ◌<◌, [], ◌∷◌, if◌then◌else◌, IfSome, true};
+ghost use Rattle.std.specs.Prelude.{◌≡◌, ◌<◌, [], ◌∷◌, if◌then◌else◌, IfOk, IfSome, IsOk, IsTrue};
+ghost use Rattle.std.specs.Prelude.{true};
+ghost use Rattle.bittle.specs.BitPatterns.{bit_set};
 ghost use Rattle.bittle.specs.Values.{set_in};
 ghost use Rattle.bit_histories.specs.Histories.{IsHistory};
-ghost use Rattle.bit_roles.specs.Roles.{roles_of, answer_to, roles_after};
+ghost use Rattle.bit_roles.specs.Roles.{Allows, roles_of, answer_to, roles_after};
 
 use bit_roles::{Answer, Refused, Request, Roles};
 use bittle::{Bits, BitsOwned};
@@ -347,4 +349,60 @@ pub fn entry_if_allowed(
     } else {
         None
     }
+}
+
+/// Grants two permissions to a role.
+pub fn grant_two(
+    roles: &mut Roles<u32, 4>,
+    role: u32,
+    first: u32,
+    second: u32,
+) -> Result<(), Refused>
+    ensures first { IsOk result → Allows (roles_of 4 32 (bit_set 32) roles.new.granted
+        roles.new.parents) role first }
+    ensures second { IsOk result → Allows (roles_of 4 32 (bit_set 32) roles.new.granted
+        roles.new.parents) role second }
+    ensures a_role { IsOk result → role < 4 }
+    ensures parents { roles.new.parents ≡ roles.old.parents }
+{
+    roles.grant(role, first)?;
+    roles.grant(role, second)
+}
+
+/// Gives a role a parent that allows a permission, and returns whether it did. Then the role allows
+/// the permission too.
+pub fn adopt<const N: usize>(
+    roles: &mut Roles<u64, N>,
+    role: u32,
+    parent: u32,
+    permission: u32,
+) -> bool
+    ensures allows { IsTrue result → Allows (roles_of N 64 (bit_set 64) roles.new.granted
+        roles.new.parents) role permission }
+    ensures lesser { IsTrue result → parent < role }
+{
+    if !roles.allows(parent, permission) {
+        return false;
+    }
+    roles.inherit(role, parent).is_ok()
+}
+
+/// Returns guests, users and admins. A guest may do 0, a user also 1, and an admin also 2.
+pub fn three_levels() -> Result<Roles<u32, 3>, Refused>
+    ensures guest { IfOk result (λ roles. Allows (roles_of 3 32 (bit_set 32) roles.granted
+        roles.parents) 0 0) }
+    ensures user { IfOk result (λ roles. Allows (roles_of 3 32 (bit_set 32) roles.granted
+        roles.parents) 1 0) }
+    ensures admin { IfOk result (λ roles. Allows (roles_of 3 32 (bit_set 32) roles.granted
+        roles.parents) 2 0) }
+    ensures admin_only { IfOk result (λ roles. Allows (roles_of 3 32 (bit_set 32) roles.granted
+        roles.parents) 2 2) }
+{
+    let mut roles = Roles::<u32, 3>::new();
+    roles.inherit(1, 0)?;
+    roles.inherit(2, 1)?;
+    roles.grant(0, 0)?;
+    roles.grant(1, 1)?;
+    roles.grant(2, 2)?;
+    Ok(roles)
 }

@@ -1,10 +1,10 @@
 use Rattle.std.proofs.Common.{◌<◌, Some, length, inr, ap, sym, subst, ◌∙◌, arith}
 use Rattle.std.proofs.lemmas.Option.{same_Some}
 use Rattle.bittle.specs.Values.{set_in}
-use Rattle.bit_roles.specs.Roles.{Allows, ancestor, may_inherit, roles_of}
+use Rattle.bit_roles.specs.Roles.{Allows, LeadsTo, ancestor, may_inherit, roles_of}
 use Rattle.bit_roles.specs.declared.Request.TheVariants.{Inherit}
 use Rattle.bit_roles.proofs.RoleLaws.{done_exactly, less_both, inherit_gives, other_parents_keep}
-use Rattle.bit_roles.proofs.RoleLaws.{others_allow_same}
+use Rattle.bit_roles.proofs.RoleLaws.{others_allow_same, leads_as_parent, lesser_still_lead}
 use Rattle.bit_roles.proofs.Rows.{lesser_written, parent_written, row_with_parent}
 use Rattle.bit_roles.proofs.Roles.inherit.Goals as goal
 
@@ -70,5 +70,23 @@ returns-clause-others_allow g c other allowed apart =
     )
 
 pub returns-clause-leads : goal.returns-clause-leads
-unfolding ancestor
+unfolding ancestor LeadsTo
 returns-clause-leads g c done = (1, returns-clause-parent g c done)
+
+pub returns-clause-leads_on : goal.returns-clause-leads_on
+returns-clause-leads_on g c other done leads =
+    let roles = roles_of g.row.N g.B.Shape.type_capacity (set_in g.B.Shape g.B.Order.Endian)
+    c.args.self.now.granted c.args.self.now.parents in
+    let is_done = (done_exactly roles (Inherit c.args.role c.args.parent)).1
+    (omega arith, omega arith) in
+    subst (λ r. LeadsTo r c.args.role other) (sym (returns-clause-roles g c))
+    (leads_as_parent roles (may_inherit roles c.args.role c.args.parent) c.args.role c.args.parent
+    other c.args.self.now.lesser is_done (omega arith) leads)
+
+pub returns-clause-lesser_still_lead : goal.returns-clause-lesser_still_lead
+returns-clause-lesser_still_lead g c other to below leads =
+    let roles = roles_of g.row.N g.B.Shape.type_capacity (set_in g.B.Shape g.B.Order.Endian)
+    c.args.self.now.granted c.args.self.now.parents in
+    subst (λ r. LeadsTo r other to) (sym (returns-clause-roles g c))
+    (lesser_still_lead roles (may_inherit roles c.args.role c.args.parent) c.args.role
+    c.args.parent other to c.args.self.now.lesser below leads)

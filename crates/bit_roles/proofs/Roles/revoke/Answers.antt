@@ -56,9 +56,11 @@ returns-clause-allows g c done =
     )
 
 pub returns-clause-still_allows : goal.returns-clause-still_allows
+unfolding Allows
 returns-clause-still_allows g c other allowed apart was =
     subst (λ roles. Allows roles other allowed) (sym (returns-clause-roles g c))
-    (still_held _ c.args.role c.args.permission other allowed was (λ both. apart both.1))
+    (still_held _ c.args.role c.args.permission other allowed was.0 was.1 was.2 was.3
+    (λ both. apart both.1))
 
 pub returns-clause-others_allow : goal.returns-clause-others_allow
 returns-clause-others_allow g c other allowed apart =
