@@ -387,15 +387,19 @@ pub fn adopt<const N: usize>(
     roles.inherit(role, parent).is_ok()
 }
 
-/// Returns guests, users and admins. A guest may do 0, a user also 1, and an admin also 2.
+/// Returns guests (role 0), users (1) and admins (2). A guest may do 0, a user also 1, and an admin
+/// also 2. The result is always `Ok`.
 pub fn three_levels() -> Result<Roles<u32, 3>, Refused>
+    ensures done { IsOk result }
     ensures guest { IfOk result (λ roles. Allows (roles_of 3 32 (bit_set 32) roles.granted
         roles.parents) 0 0) }
     ensures user { IfOk result (λ roles. Allows (roles_of 3 32 (bit_set 32) roles.granted
         roles.parents) 1 0) }
+    ensures user_too { IfOk result (λ roles. Allows (roles_of 3 32 (bit_set 32) roles.granted
+        roles.parents) 1 1) }
     ensures admin { IfOk result (λ roles. Allows (roles_of 3 32 (bit_set 32) roles.granted
         roles.parents) 2 0) }
-    ensures admin_only { IfOk result (λ roles. Allows (roles_of 3 32 (bit_set 32) roles.granted
+    ensures admin_too { IfOk result (λ roles. Allows (roles_of 3 32 (bit_set 32) roles.granted
         roles.parents) 2 2) }
 {
     let mut roles = Roles::<u32, 3>::new();
