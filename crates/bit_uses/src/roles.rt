@@ -351,7 +351,7 @@ pub fn entry_if_allowed(
     }
 }
 
-/// Grants two permissions to a role.
+/// Grants two permissions to a role. It succeeds if there are such a role and such permissions.
 pub fn grant_two(
     roles: &mut Roles<u32, 4>,
     role: u32,
@@ -364,13 +364,15 @@ pub fn grant_two(
         roles.new.parents) role second }
     ensures a_role { IsOk result → role < 4 }
     ensures parents { roles.new.parents ≡ roles.old.parents }
+    ensures done { role < 4 → first < 32 → second < 32 → IsOk result }
 {
     roles.grant(role, first)?;
     roles.grant(role, second)
 }
 
 /// Gives a role a parent that allows a permission, and returns whether it did. Then the role allows
-/// the permission too.
+/// the permission too. It succeeds if there is such a role, and if the parent has a lesser number
+/// and allows the permission.
 pub fn adopt<const N: usize>(
     roles: &mut Roles<u64, N>,
     role: u32,
@@ -380,6 +382,8 @@ pub fn adopt<const N: usize>(
     ensures allows { IsTrue result → Allows (roles_of N 64 (bit_set 64) roles.new.granted
         roles.new.parents) role permission }
     ensures lesser { IsTrue result → parent < role }
+    ensures done { Allows (roles_of N 64 (bit_set 64) roles.old.granted roles.old.parents) parent
+        permission → parent < role → role < N → IsTrue result }
 {
     if !roles.allows(parent, permission) {
         return false;
