@@ -1,4 +1,4 @@
-use Rattle.std.proofs.Common.{◌≡◌, ℕ, length, false, arith}
+use Rattle.std.proofs.Common.{◌≡◌, length, false, arith}
 use Rattle.bit_slots.specs.SlotSets.{is_free, is_slot}
 use Rattle.bit_uses.proofs.slots.insert_thrice.Goals as goal
 
