@@ -406,9 +406,22 @@ impl<'a, B: Bits, E: Endian> View for InOrder<'a, B, E> {}
 
 impl<'a, B: Bits, E: Endian> View for Within<'a, B, E> {}
 
-/// States that a view of `in_order` or `in_order_mut` has the order that it names.
+/// States which bit order each view has. A view of `in_order` or `in_order_mut` has the order that
+/// it names, a view of two sets that of the first set, and each other view that of its set.
 #[doc(hidden)]
-pub fn order_is_the_named_one<'a, B: BitsMut + 'a, E: Endian>()
+pub fn views_have_their_order<
+    'a,
+    A: Bits + 'a,
+    B: BitsMut + 'a,
+    E: Endian,
+    F: Endian,
+    O: ViewOperation,
+>()
     ensures read { ⟦<<InOrder<'a, B, E> as Bits>::Order as Endian>⟧.mirrored ≡ E.mirrored }
     ensures changed { ⟦<<InOrderMut<'a, B, E> as Bits>::Order as Endian>⟧.mirrored ≡ E.mirrored }
+    ensures both { ⟦<<OfBoth<'a, A, B, E, F, O> as Bits>::Order as Endian>⟧.mirrored
+        ≡ E.mirrored }
+    ensures within { ⟦<<Within<'a, B, E> as Bits>::Order as Endian>⟧.mirrored ≡ E.mirrored }
+    ensures complement { ⟦<<Complement<'a, B> as Bits>::Order as Endian>⟧.mirrored
+        ≡ ⟦<<B as Bits>::Order as Endian>⟧.mirrored }
 {}
