@@ -65,7 +65,7 @@ NoRunExactlyIfNoneIsFree =
     → (answer_to s request ≡ NoRun) ↔ ((length : ℕ) × (request ≡ TakeRun length)
     × ((first : ℕ) → IsRun (complement s) length first → ⊥))
 
--- Given is answered exactly if pages are given back and each of them is taken
+-- Given is answered exactly if one page is given back that is taken, or one run of taken pages
 abbrev pub GivenExactlyIfTaken : Type 0
 GivenExactlyIfTaken =
     (s : PlainSet) (request : Request)
@@ -73,7 +73,8 @@ GivenExactlyIfTaken =
     ↔ (((page : ℕ) × (request ≡ GiveBack page) × (is_taken s page ≡ true))
     ⊎ ((first : ℕ) × (length : ℕ) × (request ≡ GiveBackRun first length) × IsRun s length first))
 
--- NotTaken is answered exactly if pages are given back and one of them is not taken
+-- NotTaken is answered exactly if one page is given back that is not taken, or one run that is not
+-- a run of taken pages
 abbrev pub NotTakenExactlyIfNotTaken : Type 0
 NotTakenExactlyIfNotTaken =
     (s : PlainSet) (request : Request)

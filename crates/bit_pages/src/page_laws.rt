@@ -43,12 +43,14 @@ pub fn no_run_exactly_if_none_is_free()
     ensures { NoRunExactlyIfNoneIsFree }
 {}
 
-/// States that `Given` is answered exactly if pages are given back and each of them is taken.
+/// States that `Given` is answered exactly if a page is given back that is taken, or a run that
+/// ends at or below the number of pages and has only taken pages.
 pub fn given_exactly_if_taken()
     ensures { GivenExactlyIfTaken }
 {}
 
-/// States that `NotTaken` is answered exactly if pages are given back and one of them is not taken.
+/// States that `NotTaken` is answered exactly if a page is given back that is not taken, or a run
+/// that ends past the last page or has a page that is not taken.
 pub fn not_taken_exactly_if_not_taken()
     ensures { NotTakenExactlyIfNotTaken }
 {}

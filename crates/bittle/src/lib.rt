@@ -124,7 +124,7 @@
 //! orders. A call without an ending uses the order of the type: [`BigEndian`], or the order that a
 //! [`Set`] remembers. `join_ones` always uses [`BigEndian`].
 //!
-//! No call is named `is_empty` or `len`, since slices have methods of these names. Call
+//! No call on a set is named `is_empty` or `len`, since slices have methods of these names. Call
 //! `all_zeros`, `all_ones`, `count_ones` and `bits_capacity` instead.
 #![tactic(auto)]
 
