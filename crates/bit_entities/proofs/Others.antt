@@ -1,16 +1,19 @@
 -- What a change of a world, or an event, leaves as it was.
-use Rattle.std.proofs.Common.{◌≡◌, ◌≢◌, ℕ, ◌⊎◌, Bool, true, false, cond, ◌&&◌, ◌==◌, Option, Some}
-use Rattle.std.proofs.Common.{None, List, [], ◌∷◌, inl, inr, refl, sym, ap, ◌∙◌, subst}
+use Rattle.std.proofs.Common.{◌≡◌, ◌≢◌, ℕ, ◌<◌, ◌⊎◌, Bool, true, false, cond, ◌&&◌, ◌==◌, Option}
+use Rattle.std.proofs.Common.{Some, None, List, [], ◌∷◌, inl, inr, refl, sym, ap, ◌∙◌, subst}
 use Rattle.std.proofs.lemmas.Bool.{eq-eqb, ne_eqb}
+use Rattle.std.specs.Prelude.{slice_get}
 use Rattle.bittle.specs.PlainSet.{PlainSet}
+use Rattle.bit_histories.proofs.Histories.{each_answer}
 use Rattle.bit_entities.specs.Entities.{World, least_dead, may_have, with_number}
 use Rattle.bit_entities.specs.Entities.{without_components, without_entity}
 use Rattle.bit_entities.specs.Entities.{with_component, spawned_or_full, with_spawned, answer_to}
-use Rattle.bit_entities.specs.Entities.{world_after, final_world}
+use Rattle.bit_entities.specs.Entities.{world_after, event_answers, final_world}
 use Rattle.bit_entities.specs.EntityLaws.{names, IsUnchanged}
 use Rattle.bit_entities.specs.declared.Event.{Event}
 use Rattle.bit_entities.specs.declared.Event.TheVariants.{Spawn, Remove, Attach, Detach, DetachAll}
 use Rattle.bit_entities.specs.declared.Answer.TheVariants.{Spawned}
+use Rattle.bit_entities.proofs.EntityLaws.{spawned_is}
 
 -- `with_number` changes the test of no other number
 pub number_other : (s : PlainSet) (i : ℕ) (is : Bool) (t : PlainSet) → t ≡ with_number s i is →
@@ -153,3 +156,11 @@ sizes_stay w (event ∷ events) =
     let one = one_keeps_sizes w event in
     let later = sizes_stay (world_after w event) events in
     (later.0 ∙ one.0, later.1 ∙ one.1)
+
+-- each entity that a list of events spawns is below the capacity
+pub spawned_are_below : (w : World) (events : List Event) (i entity : ℕ) →
+    slice_get (event_answers w events) i ≡ Some (Spawned entity) → entity < w.alive.capacity
+unfolding event_answers
+spawned_are_below w events i entity e = each_answer answer_to world_after (λ v. v.alive.capacity)
+    (λ c given. (k : ℕ) → given ≡ Spawned k → k < c) (λ v event. (one_keeps_sizes v event).0)
+    (λ v event k is. (spawned_is v event k is).0.1) w events i (Spawned entity) e entity refl

@@ -26,12 +26,12 @@
 
 ghost use Rattle.std.specs.Option.{is_some};
 ghost use Rattle.std.specs.Prelude.{◌≡◌, ◌≢◌, ◌<◌, ◌≤◌, ◌+◌, ℕ, length, true, false, IfSome};
-ghost use Rattle.std.specs.Prelude.{IsSome, IsTrue};
+ghost use Rattle.std.specs.Prelude.{IsSome, IsTrue, slice_index_or};
 ghost use Rattle.std.specs.Prelude.{MatchOption, Some, ◌==◌, cond, if◌then◌else◌};
 ghost use Rattle.bittle.specs.PlainSet.{complement, size};
 ghost use Rattle.bittle.specs.Searches.{IsFirstIn};
 ghost use Rattle.bittle.specs.Shapes.{Fits};
-ghost use Rattle.bittle.specs.Values.{set_in};
+ghost use Rattle.bittle.specs.Values.{set_in, ShapeFits};
 ghost use Rattle.bit_entities.specs.Entities.{IsWorld, world_of, bare_world, empty_world};
 ghost use Rattle.bit_entities.specs.Entities.{may_have, least_dead};
 ghost use Rattle.bit_entities.specs.Entities.{answer_to, world_after, event_answers, final_world};
@@ -128,7 +128,9 @@ impl<B: BitsOwned, const N: usize> World<B, N> {
     /// Returns the set of the living entities. Iterate over it by `iter_ones`. The set is lent, so
     /// the world cannot change meanwhile; `matching(&[])` returns a copy.
     pub fn alive(&self) -> &B
-        ensures { result.now ≡ self.now.alive }
+        ensures alive { result.now ≡ self.now.alive }
+        ensures fits { ShapeFits B.Shape result.now }
+        ensures capacity { (B.big result.now).capacity ≡ B.type_capacity }
     {
         &self.alive
     }
@@ -142,9 +144,12 @@ impl<B: BitsOwned, const N: usize> World<B, N> {
         self.alive.count_ones()
     }
 
-    /// Returns whether no entity is alive: whether [`alive`](World::alive) has no set bit.
+    /// Returns whether no entity is alive: whether [`alive`](World::alive) has no set bit. It costs
+    /// what `all_zeros` of this set costs.
     pub fn is_empty(&self) -> bool
-        ensures { result ≡ (size (set_in B.Shape B.Order.Endian self.now.alive) == 0) }
+        ensures count { result ≡ (size (set_in B.Shape B.Order.Endian self.now.alive) == 0) }
+        ensures none { let world = world_of N (set_in B.Shape B.Order.Endian) self.now.alive
+            self.now.components in IsTrue result → (entity : ℕ) → world.alive.has entity ≡ false }
     {
         self.alive.all_zeros()
     }
@@ -223,6 +228,8 @@ impl<B: BitsOwned, const N: usize> World<B, N> {
         ensures below { IsTrue result → entity < B.type_capacity }
         ensures count { size (set_in B.Shape B.Order.Endian self.old.alive)
             ≡ size (set_in B.Shape B.Order.Endian self.new.alive) + cond result 1 0 }
+        ensures room { IsTrue result
+            → size (set_in B.Shape B.Order.Endian self.new.alive) < B.type_capacity }
         ensures others { (other : ℕ) → other ≢ entity
             → (set_in B.Shape B.Order.Endian self.new.alive).has other
             ≡ (set_in B.Shape B.Order.Endian self.old.alive).has other }
@@ -378,11 +385,13 @@ impl<B: BitsOwned, const N: usize> World<B, N> {
     }
 
     /// Serves the events in their order, and writes an answer to each. `answers` has to be as long
-    /// as `events`.
+    /// as `events`. Each entity that is spawned is below the capacity.
     pub fn serve(&mut self, events: &[Event], answers: &mut [Answer])
         requires { length answers.old ≡ length events.now }
         ensures answers { answers.new ≡ event_answers (world_of N (set_in B.Shape B.Order.Endian)
             self.old.alive self.old.components) events.now }
+        ensures below { (i entity : ℕ) (d : Answer) → i < length answers.new
+            → slice_index_or answers.new i d ≡ Answer.Spawned entity → entity < B.type_capacity }
         ensures world { world_of N (set_in B.Shape B.Order.Endian) self.new.alive
             self.new.components ≡ final_world (world_of N (set_in B.Shape B.Order.Endian)
             self.old.alive self.old.components) events.now }

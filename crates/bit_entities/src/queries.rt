@@ -30,12 +30,14 @@ impl<B: BitsOwned, const N: usize> World<B, N> {
     }
 
     /// Lends the mask of the entities that have a component, or returns `None` if there is no such
-    /// component. The world cannot change meanwhile; `matching(&[component])` returns a copy.
+    /// component. The world cannot change meanwhile; `matching(&[component])` returns a copy. It
+    /// costs O(1).
     pub fn having(&self, component: u32) -> Option<&B>
         ensures mask { IfSome result (λ mask. set_in B.Shape B.Order.Endian mask.now ≡ matching
             (world_of N (set_in B.Shape B.Order.Endian) self.now.alive self.now.components)
             (component ∷ [])) }
         ensures fits { IfSome result (λ mask. ShapeFits B.Shape mask.now) }
+        ensures capacity { IfSome result (λ mask. (B.big mask.now).capacity ≡ B.type_capacity) }
         ensures there { MatchOption result (N ≤ component) (λ mask. component < N) }
     {
         let mask = self.components.get(component as usize)?;

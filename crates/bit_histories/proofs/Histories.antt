@@ -1,7 +1,8 @@
 -- Lists of requests and their answers, and histories of calls.
-use Rattle.std.proofs.Common.{◌≡◌, zero, suc, List, [], ◌∷◌, ◌++◌, refl, ap, ◌∙◌, subst}
+use Rattle.std.proofs.Common.{◌≡◌, ℕ, zero, suc, Some, List, [], ◌∷◌, ◌++◌, refl, ap, ◌∙◌, subst}
+use Rattle.std.proofs.lemmas.Option.{same_Some}
 use Rattle.std.specs.List.{fold, scan}
-use Rattle.std.specs.Prelude.{map}
+use Rattle.std.specs.Prelude.{map, slice_get}
 use Rattle.bit_histories.specs.Histories.{IsHistory, CallsAnswerAsLists, AnswersAreOfTheirStates}
 
 module _ {S Q A : Type 0} (answer_to : S → Q → A) (state_after : S → Q → S) where
@@ -45,6 +46,20 @@ module _ {S Q A : Type 0} (answer_to : S → Q → A) (state_after : S → Q →
   answered_at s [] i = refl
   answered_at s (request ∷ requests) zero = refl
   answered_at s (request ∷ requests) (suc i) = answered_at (state_after s request) requests i
+
+  -- if no request changes the value `of` the state, and each answer `Fits` this value, then so does
+  -- each answer of a list
+  pub each_answer : {K : Type 0} (of : S → K) (Fits : K → A → Type 0) →
+      ((s : S) (request : Q) → of (state_after s request) ≡ of s) →
+      ((s : S) (request : Q) → Fits (of s) (answer_to s request)) →
+      (s : S) (requests : List Q) (i : ℕ) (answer : A) →
+      slice_get (scan state_after answer_to s requests) i ≡ Some answer → Fits (of s) answer
+  each_answer of Fits keeps each s [] i answer e = absurd (cc)
+  each_answer of Fits keeps each s (request ∷ requests) zero answer e =
+      subst (Fits (of s)) (same_Some _ _ e) (each s request)
+  each_answer of Fits keeps each s (request ∷ requests) (suc i) answer e =
+      subst (λ k. Fits k answer) (keeps s request)
+      (each_answer of Fits keeps each (state_after s request) requests i answer e)
 
   -- two histories, the second from where the first ends, are one history
   pub histories_join : (before between after : S) (first second : List (Q × A)) →

@@ -4,6 +4,7 @@ use Rattle.std.proofs.Common.{refl, ap, ◌∙◌, arith}
 use Rattle.std.specs.Prelude.{slice_get}
 use Rattle.bittle.specs.PlainSet.{PlainSet, complement}
 use Rattle.bittle_ext.specs.Runs.{IsFirstRun, IsRun}
+use Rattle.bit_histories.proofs.Histories.{each_answer}
 use Rattle.bit_pages.specs.PageLaws.{IsFree, IsLeastFree, length_of}
 use Rattle.bit_pages.specs.Pages.{answer_to, state_after, request_answers, final_state}
 use Rattle.bit_pages.specs.declared.Answer.TheVariants as answer
@@ -54,15 +55,9 @@ run_is_below s request first e = by ((run_is_free_one s request first).0 e)
 pub pages_are_below : (s : PlainSet) (requests : List Request) (i page : ℕ) →
     slice_get (request_answers s requests) i ≡ Some (answer.Page page) → page < s.capacity
 unfolding request_answers
-pages_are_below s [] i page e = absurd (cc)
-pages_are_below s (request ∷ requests) zero page e = page_is_below s request page (some_is e)
-pages_are_below s (request ∷ requests) (suc i) page e =
-    omega (
-      arith,
-      (step s request).capacity,
-      pages_are_below (state_after s request)
-          requests i page e,
-    )
+pages_are_below s requests i page e = each_answer answer_to state_after (λ t. t.capacity)
+    (λ c given. (p : ℕ) → given ≡ answer.Page p → p < c) (λ t request. (step t request).capacity)
+    page_is_below s requests i (answer.Page page) e page refl
 
 -- each run of a list of answers ends at or below the number of pages
 pub runs_are_below : (s : PlainSet) (requests : List Request) (i : ℕ) (asked : Request)

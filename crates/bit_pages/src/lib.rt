@@ -53,11 +53,12 @@ pub enum Answer {
     Page(u32),
     /// All pages are taken.
     Full,
-    /// The page that was asked for, or one page of the run, is taken, or there is no such page.
+    /// The page that was asked for, or one page of the run, is taken or does not exist, or the run
+    /// ends past the last page.
     NotFree,
     /// The page, or the run of pages, is free again.
     Given,
-    /// The page, or one page of the run, was not taken.
+    /// The page, or one page of the run, was not taken, or the run ends past the last page.
     NotTaken,
     /// The least page of the run that was taken.
     Run(u32),
@@ -122,7 +123,8 @@ impl<B: BitsOwned> Pages<B> {
 
     /// Lends the map of the pages that are taken. A loop over its set bits visits these pages.
     pub fn map(&self) -> &B
-        ensures { result.now ≡ self.now.map }
+        ensures map { result.now ≡ self.now.map }
+        ensures capacity { (B.big result.now).capacity ≡ B.type_capacity }
     {
         &self.map
     }
@@ -145,6 +147,8 @@ impl<B: BitsOwned> Pages<B> {
             MatchOption result (size before ≡ B.type_capacity) (IsLeastFree before) }
         ensures succeeds { size (set_in B.Shape B.Order.Endian self.old.map) < B.type_capacity
             → IsSome result }
+        ensures had_room { IfSome result
+            (λ _. size (set_in B.Shape B.Order.Endian self.old.map) < B.type_capacity) }
         ensures below { IfSome result (λ page. page < B.type_capacity) }
         ensures was_free { IfSome result
             (λ page. is_taken (set_in B.Shape B.Order.Endian self.old.map) page ≡ false) }
@@ -177,6 +181,8 @@ impl<B: BitsOwned> Pages<B> {
     pub fn take_at(&mut self, page: u32) -> bool
         ensures free { let before = set_in B.Shape B.Order.Endian self.old.map in
             IsTrue result ↔ ((page < B.type_capacity) × (is_taken before page ≡ false)) }
+        ensures had_room { IsTrue result
+            → size (set_in B.Shape B.Order.Endian self.old.map) < B.type_capacity }
         ensures below { IsTrue result → page < B.type_capacity }
         ensures taken { page < B.type_capacity
             → is_taken (set_in B.Shape B.Order.Endian self.new.map) page ≡ true }
@@ -209,6 +215,7 @@ impl<B: BitsOwned> Pages<B> {
     pub fn give_back(&mut self, page: u32) -> Result<(), NotTaken>
         ensures taken { IsOk result
             ↔ IsTrue (is_taken (set_in B.Shape B.Order.Endian self.old.map) page) }
+        ensures below { IsOk result → page < B.type_capacity }
         ensures free { is_taken (set_in B.Shape B.Order.Endian self.new.map) page ≡ false }
         ensures count { size (set_in B.Shape B.Order.Endian self.old.map)
             ≡ size (set_in B.Shape B.Order.Endian self.new.map) + cond (is_ok result) 1 0 }
@@ -245,6 +252,8 @@ impl<B: BitsOwned> Pages<B> {
     pub fn take_run(&mut self, length: u32) -> Option<u32>
         ensures run { IsFirstRun (complement (set_in B.Shape B.Order.Endian self.old.map)) 0 length
             result }
+        ensures had_room { IfSome result
+            (λ _. size (set_in B.Shape B.Order.Endian self.old.map) + length ≤ B.type_capacity) }
         ensures within { IfSome result (λ first. first + length ≤ B.type_capacity) }
         ensures were_free { IfSome result (λ first.
             NoneIn (set_in B.Shape B.Order.Endian self.old.map) first (first + length)) }
@@ -284,6 +293,8 @@ impl<B: BitsOwned> Pages<B> {
     pub fn take_run_at(&mut self, first: u32, length: u32) -> bool
         ensures free { IsTrue result
             ↔ IsRun (complement (set_in B.Shape B.Order.Endian self.old.map)) length first }
+        ensures had_room { IsTrue result
+            → size (set_in B.Shape B.Order.Endian self.old.map) + length ≤ B.type_capacity }
         ensures within { IsTrue result → first + length ≤ B.type_capacity }
         ensures taken { IsTrue result
             → IsRun (set_in B.Shape B.Order.Endian self.new.map) length first }
@@ -315,10 +326,12 @@ impl<B: BitsOwned> Pages<B> {
     /// wrap. With `length` 0 nothing is freed, and the call returns `Err` exactly if `first` is
     /// greater than the number of pages.
     ///
-    /// The words of the run are read up to the first page that is free.
+    /// The words of the run are read up to the first page that is free. If there is none, they are
+    /// written.
     pub fn give_back_run(&mut self, first: u32, length: u32) -> Result<(), NotTaken>
         ensures taken { IsOk result
             ↔ IsRun (set_in B.Shape B.Order.Endian self.old.map) length first }
+        ensures within { IsOk result → first + length ≤ B.type_capacity }
         ensures free { IsOk result
             → NoneIn (set_in B.Shape B.Order.Endian self.new.map) first (first + length) }
         ensures count { size (set_in B.Shape B.Order.Endian self.old.map)
@@ -334,6 +347,8 @@ impl<B: BitsOwned> Pages<B> {
         ensures state { set_in B.Shape B.Order.Endian self.new.map
             ≡ state_after (set_in B.Shape B.Order.Endian self.old.map)
             (Request.GiveBackRun first length) }
+        ensures room { IsOk result
+            → size (set_in B.Shape B.Order.Endian self.new.map) + length ≤ B.type_capacity }
     {
         if !self.is_run_taken(first, length) {
             return Err(NotTaken);
@@ -344,10 +359,12 @@ impl<B: BitsOwned> Pages<B> {
     }
 
     /// Returns whether each of the `length` numbers from `first` on is a page that is taken. With
-    /// `length` 0 it returns `true` exactly if `first` is at most the number of pages.
+    /// `length` 0 it returns `true` exactly if `first` is at most the number of pages. The words of
+    /// the run are read up to the first page that is free.
     pub fn is_run_taken(&self, first: u32, length: u32) -> bool
         ensures taken { IsTrue result
             ↔ IsRun (set_in B.Shape B.Order.Endian self.now.map) length first }
+        ensures within { IsTrue result → first + length ≤ B.type_capacity }
         ensures whole { result
             ≡ is_run_taken (set_in B.Shape B.Order.Endian self.now.map) first length }
     {
@@ -411,7 +428,7 @@ impl<B: BitsOwned> Pages<B> {
     }
 
     /// Returns whether both allocators have the same pages taken. One may have more pages than the
-    /// other.
+    /// other. The call copies the map of this allocator, and compares the maps.
     pub fn same_pages<C: BitsOwned>(&self, other: &Pages<C>) -> bool
         ensures { IsTrue result ↔ AreSame
             (set_in B.Shape B.Order.Endian self.now.map)

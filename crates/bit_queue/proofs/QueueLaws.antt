@@ -3,7 +3,7 @@ use Rattle.std.proofs.Common.{◌≡◌, ℕ, zero, suc, ◌+◌, ◌<◌, ◌�
 use Rattle.std.proofs.Common.{◌&&◌, ◌||◌, ◌==◌, nat_lt, Option, Some, None, List, [], ◌∷◌, inl, inr}
 use Rattle.std.proofs.Common.{refl, sym, ap, ◌∙◌, subst, arith}
 use Rattle.std.specs.List.{count_by, fold, scan}
-use Rattle.std.specs.Prelude.{◌↔◌, MatchOption}
+use Rattle.std.specs.Prelude.{◌↔◌, MatchOption, slice_get}
 use Rattle.std.proofs.lemmas.Bool.{cases_eq, cases_Bool, cases_lt, lt-ltb, ltb-true, le-ltb, eq-eqb}
 use Rattle.std.proofs.lemmas.Bool.{ne_eqb, or_right, and_parts, and_right, true≢false}
 use Rattle.bittle.specs.PlainSet.{PlainSet, members_below}
@@ -18,6 +18,7 @@ use Rattle.bit_queue.specs.declared.Answer.TheVariants.{Woken, NoTask, Removed, 
 use Rattle.bit_queue.specs.declared.Answer.TheVariants.{Idle}
 use Rattle.bit_queue.specs.declared.Event.{Event}
 use Rattle.bit_queue.specs.declared.Event.TheVariants.{Wake, Remove, Next}
+use Rattle.bit_histories.proofs.Histories.{each_answer}
 use Rattle.bittle.proofs.Replies.{run_keeps}
 use Rattle.bit_queue.proofs.Counting.{counts_fewer, counts_less, counts_with, counts_item}
 use Rattle.bit_queue.proofs.Urgency.{most_urgent-is, most_urgent-of, ready-member}
@@ -403,6 +404,14 @@ keeps s Next = by (most_urgent s)
     by : (o : Option ℕ) → (without_picked s o).capacity ≡ s.capacity
     by None = refl
     by (Some p) = refl
+
+-- each task that runs in a list of events is below the number of tasks
+pub tasks_are_below : (s : PlainSet) (events : List Event) (i task : ℕ) →
+    slice_get (event_answers s events) i ≡ Some (Runs task) → task < s.capacity
+unfolding event_answers
+tasks_are_below s events i task e = each_answer answer_to state_after (λ t. t.capacity)
+    (λ c given. (p : ℕ) → given ≡ Runs p → p < c) keeps
+    (λ t event p is. (runs_most_urgent t event p is).within) s events i (Runs task) e task refl
 
 stays : (s : PlainSet) (event : Event) (task : ℕ) → is_ready s task ≡ true →
     (answer_to s event ≡ Runs task → ⊥) → (event ≡ Remove task → ⊥) →

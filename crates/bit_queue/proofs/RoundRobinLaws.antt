@@ -20,6 +20,7 @@ use Rattle.bit_queue.specs.declared.Answer.TheVariants.{Woken, NoTask, Removed, 
 use Rattle.bit_queue.specs.declared.Answer.TheVariants.{Idle}
 use Rattle.bit_queue.specs.declared.Event.{Event}
 use Rattle.bit_queue.specs.declared.Event.TheVariants.{Wake, Remove, Next}
+use Rattle.bit_histories.proofs.Histories.{each_answer}
 use Rattle.bittle.proofs.Replies.{run_keeps}
 use Rattle.bit_queue.proofs.Counting.{counts_less, counts_item}
 use Rattle.bit_queue.proofs.QueueLaws.{changes_nothing, woken_is_no_run, woken_is_not_idle}
@@ -207,6 +208,14 @@ keeps r Next = by (next_in_turn r)
     by : (o : Option ℕ) → (past_picked r o).ready.capacity ≡ r.ready.capacity
     by None = refl
     by (Some p) = refl
+
+-- each task that runs in a list of events is below the number of tasks
+pub tasks_are_below : (r : Round) (events : List Event) (i task : ℕ) →
+    slice_get (answers_in_turn r events) i ≡ Some (Runs task) → task < r.ready.capacity
+unfolding answers_in_turn
+tasks_are_below r events i task e = each_answer answer_in_turn round_after (λ t. t.ready.capacity)
+    (λ c given. (p : ℕ) → given ≡ Runs p → p < c) keeps
+    (λ t event p is. (runs_in_turn t event p is).within) r events i (Runs task) e task refl
 
 stays : (r : Round) (event : Event) (task : ℕ) → is_ready r.ready task ≡ true →
     (answer_in_turn r event ≡ Runs task → ⊥) → (event ≡ Remove task → ⊥) →

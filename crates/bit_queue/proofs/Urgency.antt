@@ -10,7 +10,7 @@ use Rattle.bittle.specs.Searches.{NoneIn, IsFirstIn}
 use Rattle.bittle.proofs.CallerLists.{ascending_none, ascending_first}
 use Rattle.bittle.proofs.CallerChanges.{size_inserted, size_without}
 use Rattle.bittle.proofs.CallerSets.{contains_within, with_index_within, without_index_within}
-use Rattle.bittle.proofs.CallerSets.{size_none, size_zero}
+use Rattle.bittle.proofs.CallerSets.{size_none, size_some, size_zero}
 use Rattle.bit_queue.specs.Queue.{is_ready, most_urgent, with_task, without_task, with_woken}
 use Rattle.bit_queue.specs.Queue.{with_removed}
 use Rattle.bit_queue.specs.QueueLaws.{IsMostUrgent}
@@ -99,13 +99,8 @@ pub found_counts : (s : PlainSet) (end : ℕ) (found : Option ℕ) (P : ℕ → 
     end ≡ s.capacity → ((k : ℕ) → P k → (k < s.capacity) × (s.has k ≡ true)) →
     MatchOption found (NoneIn s 0 end) P → MatchOption found (size s ≡ 0) (λ _. 0 < size s)
 found_counts s end None P all ready none = size_zero s (subst (λ n. NoneIn s 0 n) all none)
-found_counts s end (Some task) P all ready found = elim (cases_lt 0 (size s)) [
-  | inl some ↦ some
-  | inr g ↦
-      let is = ready task found in
-      let none = size_none s (omega (arith, g)) task (omega arith) is.0 in
-      absurd (true≢false (sym is.1 ∙ none))
-]
+found_counts s end (Some task) P all ready found =
+    let is = ready task found in size_some s task is.0 is.1
 
 -- a test of the set shows whether a task is ready
 pub is_ready-within : (s : PlainSet) (task : ℕ) → task < s.capacity →

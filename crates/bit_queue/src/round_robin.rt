@@ -1,7 +1,7 @@
 //! The queue in which the ready tasks take turns.
 
 ghost use Rattle.std.specs.Prelude.{◌≡◌, ◌==◌, ◌<◌, ◌≤◌, ◌↔◌, length, true, false, IfSome, IsOk};
-ghost use Rattle.std.specs.Prelude.{IsSome, IsTrue, MatchOption, Some, ℕ, ◌≢◌};
+ghost use Rattle.std.specs.Prelude.{IsSome, IsTrue, MatchOption, Some, ℕ, ◌≢◌, slice_index_or};
 ghost use Rattle.std.specs.Prelude.{◌+◌, ◌&&◌, not, cond, is_ok, is_some};
 ghost use Rattle.bittle.specs.PlainSet.{empty_set, size};
 ghost use Rattle.bittle.specs.Searches.{NoneIn};
@@ -57,7 +57,8 @@ impl<B: BitsOwned> RoundRobin<B> {
 
     /// Lends the set of the ready tasks. The indexes follow the bit order of `B`.
     pub fn ready(&self) -> &B
-        ensures { result.now ≡ self.now.ready }
+        ensures ready { result.now ≡ self.now.ready }
+        ensures capacity { (B.big result.now).capacity ≡ B.type_capacity }
     {
         &self.ready
     }
@@ -242,11 +243,13 @@ impl<B: BitsOwned> RoundRobin<B> {
     }
 
     /// Serves the events in their order, and writes an answer to each. `answers` has to be as long
-    /// as `events`.
+    /// as `events`. Each task that runs is below the number of tasks.
     pub fn serve(&mut self, events: &[Event], answers: &mut [Answer])
         requires { length answers.old ≡ length events.now }
         ensures answers { answers.new ≡ answers_in_turn
             (round_at (set_in B.Shape B.Order.Endian self.old.ready) self.old.turn) events.now }
+        ensures below { (i task : ℕ) (d : Answer) → i < length answers.new
+            → slice_index_or answers.new i d ≡ Answer.Runs task → task < B.type_capacity }
         ensures round { round_at (set_in B.Shape B.Order.Endian self.new.ready) self.new.turn
             ≡ final_round (round_at (set_in B.Shape B.Order.Endian self.old.ready) self.old.turn)
             events.now }

@@ -258,6 +258,17 @@ impl<B: BitsOwned, const N: usize> Roles<B, N> {
             let after = roles_of N B.type_capacity (set_in B.Shape B.Order.Endian)
             self.new.granted self.new.parents in (allowed : ℕ) → IsOk result
             → Allows before parent allowed → Allows after role allowed }
+        ensures allows_own { let before = roles_of N B.type_capacity
+            (set_in B.Shape B.Order.Endian) self.old.granted self.old.parents in
+            let after = roles_of N B.type_capacity (set_in B.Shape B.Order.Endian)
+            self.new.granted self.new.parents in (allowed : ℕ) → IsOk result
+            → before.granted role allowed ≡ true → Allows after role allowed }
+        ensures heirs { let before = roles_of N B.type_capacity
+            (set_in B.Shape B.Order.Endian) self.old.granted self.old.parents in
+            let after = roles_of N B.type_capacity (set_in B.Shape B.Order.Endian)
+            self.new.granted self.new.parents in (other allowed : ℕ) → IsOk result
+            → LeadsTo before other role → Allows before parent allowed
+            → Allows after other allowed }
         ensures allows_only { let before = roles_of N B.type_capacity
             (set_in B.Shape B.Order.Endian) self.old.granted self.old.parents in
             let after = roles_of N B.type_capacity (set_in B.Shape B.Order.Endian)
@@ -271,6 +282,7 @@ impl<B: BitsOwned, const N: usize> Roles<B, N> {
             → (LeadsTo before other role → ⊥)
             → Allows after other allowed ↔ Allows before other allowed }
         ensures granted { self.new.granted ≡ self.old.granted }
+        ensures refused { is_ok result ≡ false → self.new.parents ≡ self.old.parents }
         ensures answer { (if is_ok result then Answer.Done else Answer.Refused)
             ≡ answer_to (roles_of N B.type_capacity (set_in B.Shape B.Order.Endian)
             self.old.granted self.old.parents) (Request.Inherit role parent) }
@@ -348,10 +360,11 @@ impl<B: BitsOwned, const N: usize> Roles<B, N> {
     }
 
     /// Lends the set of the permissions that were granted to a role itself, or returns `None` if
-    /// there is no such role. The indexes follow the bit order of `B`.
+    /// there is no such role. The indexes follow the bit order of `B`. It costs O(1).
     pub fn granted(&self, role: u32) -> Option<&B>
         ensures set { option_copied result ≡ slice_get self.now.granted role }
         ensures a_role { IsSome result ↔ role < N }
+        ensures capacity { IfSome result (λ set. (B.big set.now).capacity ≡ B.type_capacity) }
         ensures permissions { let roles = roles_of N B.type_capacity
             (set_in B.Shape B.Order.Endian) self.now.granted self.now.parents in
             IfSome result (λ set. (permission : ℕ) → permission < B.type_capacity

@@ -1,6 +1,6 @@
 -- How many slots of a row pass a test, and which numbers name them.
-use Rattle.std.proofs.Common.{◌≡◌, ℕ, zero, suc, ◌+◌, ◌<◌, ◌≤◌, Bool, true, false, cond, List}
-use Rattle.std.proofs.Common.{length, Option, Some, None, inl, inr, refl, sym, ap, ◌∙◌, arith}
+use Rattle.std.proofs.Common.{◌≡◌, ℕ, zero, suc, ◌+◌, ◌<◌, ◌≤◌, Bool, true, false, cond, List, []}
+use Rattle.std.proofs.Common.{◌∷◌, length, Option, Some, None, inl, inr, refl, sym, ap, ◌∙◌, arith}
 use Rattle.std.specs.Prelude.{◌==◌, nat_lt, slice_get}
 use Rattle.std.specs.List.{All}
 use Rattle.std.proofs.lemmas.Bool.{cases_lt}
@@ -12,6 +12,7 @@ use Rattle.bittle.proofs.CallerLists.{ascending_member}
 use Rattle.bittle.proofs.CallerSets.{size_at_most}
 use Rattle.bit_slots.specs.declared.slot.Slot.{Slot}
 use Rattle.bit_slots.specs.declared.slot.Slot.TheVariants.{Free, Live, Retired}
+use Rattle.bit_slots.specs.Entries.{entries_from}
 use Rattle.bit_slots.specs.Keys.{Unused, Spent, found, stage_at, stages}
 use Rattle.bit_slots.specs.SlotSets.{is_free, is_live, is_slot, passes, slots_where, HasSlots}
 use Rattle.bit_slots.specs.SlotSets.{Joins, Leaves, Stays}
@@ -93,3 +94,33 @@ module _ {V : Type 0} (test : Slot V → Bool) (row : List (Slot V)) where
     count_leaves i h some left =
         ap (λ n. n + 1) (ap size (λ p. record { capacity = c; has = λ k. left k p }))
         ∙ sym (size_removed (slots_where test c row) i h some)
+
+-- how many numbers below c + 1 pass a test: the number 0, if it passes, and those after it
+first_apart : (c : ℕ) (p : ℕ → Bool) →
+    count_below (suc c) p ≡ cond (p 0) 1 0 + count_below c (λ k. p (suc k))
+unfolding count_below
+first_apart zero p = omega arith
+first_apart (suc c) p = omega (arith, first_apart c p)
+
+-- there are as many entries as slots that hold a value
+pub entries_count : {V : Type 0} (rest : List (Slot V)) (from c : ℕ) → length rest ≤ c →
+    length (entries_from from rest) ≡ size (slots_where is_live c rest)
+entries_count {V = V} [] from c h = omega (arith, count_at_most {V = V} is_live [] c)
+entries_count (Free generation ∷ rest) from zero h = absurd (omega (arith, h))
+entries_count (Retired ∷ rest) from zero h = absurd (omega (arith, h))
+entries_count (Live generation value ∷ rest) from zero h = absurd (omega (arith, h))
+entries_count (Free generation ∷ rest) from (suc c) h = omega (
+  arith,
+  entries_count rest (from + 1) c (omega (arith, h)),
+  first_apart c (is_slot is_live (Free generation ∷ rest)),
+)
+entries_count (Retired ∷ rest) from (suc c) h = omega (
+  arith,
+  entries_count rest (from + 1) c (omega (arith, h)),
+  first_apart c (is_slot is_live (Retired ∷ rest)),
+)
+entries_count (Live generation value ∷ rest) from (suc c) h = omega (
+  arith,
+  entries_count rest (from + 1) c (omega (arith, h)),
+  first_apart c (is_slot is_live (Live generation value ∷ rest)),
+)

@@ -93,6 +93,7 @@ impl<'a, V: Drop, B: BitsOwned> Slots<'a, V, B> {
         requires fits { IsTrue B.indexable }
         requires covers { length row.old ≤ B.type_capacity }
         ensures row { result.row.now ≡ row.old }
+        ensures count { live_count B.type_capacity row.old ≡ length (entries row.old) }
         ensures same_row { result.row.ghost_name ≡ row.entry.ghost_name }
     {
         let free = free_slots::<V, B>(row);
@@ -127,6 +128,8 @@ impl<'a, V: Drop, B: BitsOwned> Slots<'a, V, B> {
         ensures count { let before = live_count B.type_capacity self.old.row.now in
             let after = live_count B.type_capacity self.new.row.now in
             MatchResult result (λ _. after ≡ before + 1) (λ _. after ≡ before) }
+        ensures had_room { IfOk result (λ _.
+            live_count B.type_capacity self.old.row.now < length self.old.row.now) }
         ensures same_capacity { length self.new.row.now ≡ length self.old.row.now }
         ensures same_row { self.new.row.ghost_name ≡ self.old.row.ghost_name }
     {
@@ -247,6 +250,7 @@ impl<'a, V: Drop, B: BitsOwned> Slots<'a, V, B> {
             → HasEntry result (key, value) }
         ensures within { All (λ entry. entry.0.slot < length self.now.row.now) result }
         ensures at_most { length result ≤ length self.now.row.now }
+        ensures count { length result ≡ live_count B.type_capacity self.now.row.now }
     {
         Iter {
             slots: self.row,

@@ -28,6 +28,8 @@ impl<V: Drop> Slot<V> {
     pub fn new() -> Slot<V>
         ensures unused { (generation : ℕ) → stage_of result generation ≡ Unused }
         ensures free { is_free result ≡ true }
+        ensures live { is_live result ≡ false }
+        ensures value { result ≡ Slot.Free 0 }
     {
         Slot::Free(0)
     }

@@ -405,6 +405,23 @@ pub fn how_many_live<B: BitsOwned, const N: usize>(world: &World<B, N>) -> u32
     world.alive().count_ones()
 }
 
+/// Writes `true` to the entry of each living entity in `table`.
+pub fn mark_living<B: BitsOwned, const N: usize>(world: &World<B, N>, table: &mut [bool])
+    requires { B.type_capacity ≤ length table.old }
+    ensures { length table.new ≡ length table.old }
+{
+    for entity in world.alive().iter_ones() {
+        table[entity as usize] = true;
+    }
+}
+
+/// Returns whether a world is empty in which an entity is alive. The result is always `false`.
+pub fn is_empty_with<B: BitsOwned, const N: usize>(world: &World<B, N>, entity: u32) -> bool
+    ensures { result ≡ false }
+{
+    world.is_empty() && world.is_alive(entity)
+}
+
 /// Counts the entities that have a component by the mask that the world lends. Returns `None` if
 /// there is no such component.
 pub fn how_many_have<B: BitsOwned, const N: usize>(

@@ -1,7 +1,7 @@
 //! Callers of ready queues.
 
-ghost use Rattle.std.specs.Prelude.{◌≡◌, ◌≢◌, ◌<◌, length, IfSome, IsSome, IsTrue, None, true, ℕ};
-ghost use Rattle.std.specs.Prelude.{if◌then◌else◌, map, [], ◌∷◌, List};
+ghost use Rattle.std.specs.Prelude.{◌≡◌, ◌≢◌, ◌<◌, ◌≤◌, length, IfSome, IsSome, IsTrue, None, true};
+ghost use Rattle.std.specs.Prelude.{if◌then◌else◌, map, [], ◌∷◌, List, ℕ};
 ghost use Rattle.bit_histories.specs.Histories.{IsHistory};
 ghost use Rattle.bit_queue.specs.Queue.{event_answers, most_urgent, runs_or_idle};
 ghost use Rattle.bit_queue.specs.Queue.{answer_to, state_after};
@@ -23,6 +23,25 @@ pub fn run_two<B: BitsOwned>(queue: &mut PriorityQueue<B>) -> Option<(u32, u32)>
     let first = queue.next()?;
     let second = queue.next()?;
     Some((first, second))
+}
+
+/// Serves events, and counts one more run in the entry of `runs` of the task that answer `i` says
+/// runs, if it says so, unless that entry is `u32::MAX`.
+pub fn serve_and_count<B: BitsOwned>(
+    queue: &mut PriorityQueue<B>,
+    events: &[Event],
+    answers: &mut [Answer],
+    i: usize,
+    runs: &mut [u32],
+)
+    requires as_long { length answers.old ≡ length events.now }
+    requires i { i < length events.now }
+    requires runs { B.type_capacity ≤ length runs.old }
+{
+    queue.serve(events, answers);
+    if let Answer::Runs(task) = answers[i] {
+        runs[task as usize] = runs[task as usize].saturating_add(1);
+    }
 }
 
 /// Wakes `task`, and returns whether it is ready afterwards. The result is always `true`, also if

@@ -305,6 +305,45 @@ pub fn give_and_take_away<B: BitsOwned, const N: usize>(
     (granted, inherited, revoked, cleared)
 }
 
+/// Gives a role a parent, and returns whether the role still allows a permission that it was
+/// granted itself. The result is always `true`.
+pub fn inherit_and_ask_own<B: BitsOwned, const N: usize>(
+    roles: &mut Roles<B, N>,
+    role: u32,
+    parent: u32,
+    permission: u32,
+) -> bool
+    ensures { result ≡ true }
+{
+    let own = roles.is_granted(role, permission);
+    match roles.inherit(role, parent) {
+        Ok(()) => !own || roles.allows(role, permission),
+        Err(Refused) => true,
+    }
+}
+
+/// Gives `heir` the parent `role`, and `role` the parent `parent`. Returns whether `heir` then
+/// allows a permission that `parent` allowed. The result is always `true`, also if a request is
+/// refused.
+pub fn inherit_twice<B: BitsOwned, const N: usize>(
+    roles: &mut Roles<B, N>,
+    heir: u32,
+    role: u32,
+    parent: u32,
+    permission: u32,
+) -> bool
+    ensures { result ≡ true }
+{
+    if roles.inherit(heir, role).is_err() {
+        return true;
+    }
+    let allowed = roles.allows(parent, permission);
+    match roles.inherit(role, parent) {
+        Ok(()) => !allowed || roles.allows(heir, permission),
+        Err(Refused) => true,
+    }
+}
+
 /// Asks that a role inherit from itself. Returns `true`, since the request is refused.
 pub fn inherit_from_itself<B: BitsOwned, const N: usize>(roles: &mut Roles<B, N>, role: u32) -> bool
     ensures { result ≡ true }

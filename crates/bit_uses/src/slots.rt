@@ -242,6 +242,39 @@ pub fn slots_without_value<V: Drop, B: BitsOwned>(slots: &Slots<V, B>) -> u32
     slots.capacity() - slots.len()
 }
 
+/// Makes a table over two new slots, and returns how many values it has: none.
+pub fn new_len() -> u32
+    ensures { result ≡ 0 }
+{
+    let mut row = [Slot::<u32>::new(), Slot::new()];
+    Slots::<u32, u8>::over(row.as_mut_slice()).len()
+}
+
+/// Counts the values by iterating over them, and returns whether the count is that of `len`. The
+/// result is always `true`.
+pub fn count_as_len<V: Drop, B: BitsOwned>(slots: &Slots<V, B>) -> bool
+    ensures { result ≡ true }
+{
+    slots.iter().count() == slots.len() as usize
+}
+
+/// Inserts a value and returns its key, or `None` if no slot is free. `rest` is how many slots hold
+/// no value, before the call and after it.
+pub fn insert_counted<V: Drop, B: BitsOwned>(
+    slots: &mut Slots<V, B>,
+    rest: &mut u32,
+    value: V,
+) -> Option<Key>
+    requires { rest.old + live_count B.type_capacity slots.old.row.now
+        ≡ length slots.old.row.now }
+    ensures { rest.new + live_count B.type_capacity slots.new.row.now
+        ≡ length slots.new.row.now }
+{
+    let key = slots.insert(value).ok()?;
+    *rest -= 1;
+    Some(key)
+}
+
 /// Values under keys, and how often each slot was used. There are at most 64 slots.
 #[derive(Drop)]
 pub struct Counted<'a, B: BitsOwned> {

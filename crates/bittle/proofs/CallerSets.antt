@@ -72,11 +72,15 @@ combination_within decide s t i h k = let one = lt-ltb i s.capacity h in
 pub size_at_most : (s : PlainSet) → size s ≤ s.capacity
 size_at_most = sizes.size-le
 
+-- a set with a member has a size above 0
+pub size_some : (s : PlainSet) (k : ℕ) → k < s.capacity → s.has k ≡ true → 0 < size s
+size_some s k = counts.count-some s.capacity k s.has
+
 -- a set of size 0 has no members
 pub size_none : (s : PlainSet) → size s ≡ 0 → NoneIn s 0 s.capacity
 size_none s e k p q =
     elim (cases_Bool (s.has k)) [
-      | inl here ↦ let some = counts.count-some s.capacity k s.has q here in absurd (omega arith)
+      | inl here ↦ let some = size_some s k q here in absurd (omega arith)
       | inr none ↦ none
     ]
 

@@ -1,12 +1,13 @@
--- How many members a copied, shifted, grown or viewed set has, and how many are below a member.
+-- How many members a copied, shifted, grown or viewed set or a subset has, and how many are below a
+-- member.
 use Rattle.std.proofs.Common.{◌≡◌, ℕ, zero, suc, cond, Option, Some, None, MatchOption, slice_get}
 use Rattle.std.proofs.Common.{length, subst, ◌⊎◌, ◌+◌, ◌-◌, ◌<◌, ◌≤◌, Bool, true, false, ◌&&◌, List}
-use Rattle.std.proofs.Common.{[], ◌∷◌, inl, inr, refl, sym, ap, ◌∙◌, arith}
-use Rattle.std.proofs.lemmas.Bool.{cases_lt, lt-ltb, true≢false}
+use Rattle.std.proofs.Common.{[], ◌∷◌, inl, inr, refl, sym, ap, ◌∙◌, arith, is_some, not}
+use Rattle.std.proofs.lemmas.Bool.{cases_Bool, cases_lt, le-ltb, lt-ltb, true≢false}
 use Rattle.std.proofs.lemmas.Option.{slice_get-get_or}
 use Rattle.std.specs.List.{fold}
 use Rattle.bittle.specs.PlainSet.{PlainSet, ascending, count_below, is_in_span, members_below, size}
-use Rattle.bittle.specs.PlainSet.{with_index}
+use Rattle.bittle.specs.PlainSet.{complement, lacks, with_index}
 use Rattle.bittle.specs.SetOperations.{first_alone}
 use Rattle.bittle_bits.proofs.Counts.{count-add, count-never, count-same}
 use Rattle.bittle_bits.proofs.Sizes.{size-le}
@@ -16,6 +17,7 @@ use Rattle.bittle.proofs.CallerLists.{ascending_member}
 use Rattle.bittle_ext.specs.Between.{has_below, members_to}
 use Rattle.bittle_ext.specs.RangeMembers.{members_within}
 use Rattle.bittle_ext.specs.Rotations.{has_shifted_down, has_shifted_up, shifted_down, shifted_up}
+use Rattle.bittle_ext.specs.SetRelations.{IsFirstAlone, IsSubset}
 use Rattle.bittle_ext.specs.Views.{decided_of_first}
 use Rattle.bittle_ext.proofs.CommonCounts.{all_numbers}
 use Rattle.bittle_ext.proofs.KeptMembers.{Ends}
@@ -184,6 +186,41 @@ below_member s i ends has = elim (cases_lt i s.capacity) [
       omega (arith, whole, below_next s i, one)
   | inr g ↦ absurd (true≢false (sym has ∙ ends i g))
 ]
+
+-- a complement has no member at or past its capacity
+pub complement_ends : (s : PlainSet) → Ends (complement s)
+unfolding lacks
+complement_ends s i past = ap (λ b. b && not (s.has i)) (le-ltb i s.capacity past)
+
+-- if no number was found that the first set has alone, it is a subset of the second
+pub none_alone : (s t : PlainSet) (found : Option ℕ) (none : Bool) → is_some found ≡ not none →
+    none ≡ true → IsFirstAlone s t found → IsSubset s t
+none_alone s t None none e is first = first
+none_alone s t (Some i) none e is first = absurd (true≢false (e ∙ ap not is))
+
+-- a subset has at most as many members
+pub size_subset : (s t : PlainSet) → Ends t → IsSubset s t → size s ≤ size t
+size_subset s t ends each = elim (cases_lt t.capacity s.capacity) [
+  | inl l ↦ omega (
+    arith,
+    shared,
+    (all_numbers s.capacity s.has t.has).2,
+    count_past s.capacity t.capacity t.has (omega (arith, l)) ends,
+  )
+  | inr g ↦ omega (
+    arith,
+    shared,
+    (all_numbers s.capacity s.has t.has).2,
+    count_within s.capacity t.capacity t.has t.has g (λ k b. refl),
+  )
+]
+  where
+    shared : size s ≡ count_below s.capacity (λ k. s.has k && t.has k)
+    shared = count-same s.capacity s.has (λ k. s.has k && t.has k)
+        (λ k below. elim (cases_Bool (s.has k)) [
+          | inl has ↦ has ∙ sym (ap (λ b. b && t.has k) has ∙ each k has)
+          | inr lacks ↦ lacks ∙ sym (ap (λ b. b && t.has k) lacks)
+        ])
 
 -- what item n of the increasing list says
 pub select_found : (s : PlainSet) (n : ℕ) (r : Option ℕ) → r ≡ slice_get (ascending s) n →

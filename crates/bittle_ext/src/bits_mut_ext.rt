@@ -405,8 +405,8 @@ pub trait BitsMutExt: BitsMut + Sized {
     /// Indexes follow the bit order of the type, and an index at or past the capacity wraps. With
     /// capacity 0 nothing changes.
     ///
-    /// The type has to fit. For a slice, only its element type has to fit. The iterator has to end.
-    /// Each index costs O(1).
+    /// The type has to fit. For a slice, only its element type has to fit. `next` of the iterator
+    /// has to be callable, and the iterator has to end. Each index costs O(1).
     ///
     /// ```
     /// let mut row = [0u8; 2];

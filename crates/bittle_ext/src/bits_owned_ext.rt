@@ -322,7 +322,8 @@ pub trait BitsOwnedExt: BitsOwned {
     /// an array, a `Vec`, a range or an iterator. Indexes follow the bit order of the type, and an
     /// index at or past the capacity wraps. With capacity 0 the set is empty.
     ///
-    /// The iterator has to end. The call costs O(words), and O(1) for each index.
+    /// `next` of the iterator has to be callable, and the iterator has to end. The call costs
+    /// O(words), and O(1) for each index.
     ///
     /// ```
     /// <[u8; 2]>::from_iter(6..11);                        // [0xC0, 0x07]

@@ -1,6 +1,6 @@
 //! Calls that count unset bits below an index, and that find an unset bit by its rank.
 
-ghost use Rattle.std.specs.Prelude.{◌≡◌, ◌<◌, ◌≤◌, IfSome, slice_get};
+ghost use Rattle.std.specs.Prelude.{◌≡◌, ◌<◌, ◌≤◌, true, IfSome, MatchOption, slice_get};
 ghost use Rattle.bittle.specs.PlainSet.{ascending, complement, members_below, size};
 ghost use Rattle.bittle.specs.Values.{set_in, ShapeFits};
 
@@ -29,6 +29,9 @@ pub trait BitsRankExt: Bits + Sized {
         ensures at_most_index { result ≤ index }
         ensures at_most_all { result
             ≤ size (complement (set_in Self.Shape Self.Order.Endian self.now)) }
+        ensures below_member { let unset = complement
+            (set_in Self.Shape Self.Order.Endian self.now) in
+            unset.has index ≡ true → result < size unset }
     {
         self.count_zeros_in_range(0, index)
     }
@@ -48,6 +51,9 @@ pub trait BitsRankExt: Bits + Sized {
         ensures value { result ≡ slice_get
             (ascending (complement (set_in Self.Shape Self.Order.Endian self.now))) rank }
         ensures below { IfSome result (λ index. index < (Self.big self.now).capacity) }
+        ensures found { let unset = complement (set_in Self.Shape Self.Order.Endian self.now) in
+            MatchOption result (size unset ≤ rank) (λ index. (unset.has index ≡ true)
+            × (members_below unset index ≡ rank)) }
     {
         self.complement_view().select(rank)
     }

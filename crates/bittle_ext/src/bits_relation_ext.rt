@@ -81,9 +81,11 @@ pub trait BitsRelationExt: Bits + Sized {
     final fn is_subset<B: Bits>(&self, other: &B) -> bool
         requires fits { ShapeFits Self.Shape self.now }
         requires other_fits { ShapeFits B.Shape other.now }
-        ensures { let ours = set_in Self.Shape Self.Order.Endian self.now in
+        ensures subset { let ours = set_in Self.Shape Self.Order.Endian self.now in
             let theirs = set_in B.Shape B.Order.Endian other.now in
             IsTrue result ↔ IsSubset ours theirs }
+        ensures at_most { IsTrue result → size (set_in Self.Shape Self.Order.Endian self.now)
+            ≤ size (set_in B.Shape B.Order.Endian other.now) }
     {
         self.first_alone(other).is_none()
     }
@@ -98,9 +100,11 @@ pub trait BitsRelationExt: Bits + Sized {
     final fn is_superset<B: Bits>(&self, other: &B) -> bool
         requires fits { ShapeFits Self.Shape self.now }
         requires other_fits { ShapeFits B.Shape other.now }
-        ensures { let ours = set_in Self.Shape Self.Order.Endian self.now in
+        ensures superset { let ours = set_in Self.Shape Self.Order.Endian self.now in
             let theirs = set_in B.Shape B.Order.Endian other.now in
             IsTrue result ↔ IsSubset theirs ours }
+        ensures at_least { IsTrue result → size (set_in B.Shape B.Order.Endian other.now)
+            ≤ size (set_in Self.Shape Self.Order.Endian self.now) }
     {
         other.first_alone(self).is_none()
     }

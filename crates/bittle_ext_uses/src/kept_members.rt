@@ -73,6 +73,17 @@ pub fn median(values: u64) -> Option<u32>
     Some(middle)
 }
 
+/// Returns the free seat in the middle: as many free seats lie below it as above it, or one more.
+/// Returns `None` if no seat is free.
+#[tactic(auto, using(bittle_ext::proofs::CallerMembers::unset_where_found))]
+pub fn middle_free(taken: u64) -> Option<u32>
+    ensures free { IfSome result (λ seat. contains (bit_set 64 taken) seat ≡ false) }
+    ensures below { IfSome result (λ seat. seat < 64) }
+{
+    let middle = taken.select_zero(Bits::count_zeros(&taken) / 2)?;
+    Some(middle)
+}
+
 /// Returns where a sparse array keeps the entry of a key, or `None` if it has no such entry.
 pub fn dense_index(present: u64, key: u32) -> Option<u32>
     ensures { IfSome result (λ i. i < size (bit_set 64 present)) }

@@ -3,7 +3,7 @@
 //! The check proves that the second call is allowed, or that the index lies in the table, from the
 //! contract of the first call alone.
 
-ghost use Rattle.std.specs.Prelude.{◌≡◌, ◌≤◌, ℕ, true, MatchOption, Option};
+ghost use Rattle.std.specs.Prelude.{◌≡◌, ◌+◌, ◌≤◌, ℕ, true, IfSome, MatchOption, Option};
 ghost use Rattle.std.specs.Prelude.{option_map, slice_index, unwrap_or};
 ghost use Rattle.bittle.specs.BitPatterns.{bit_set};
 ghost use Rattle.bittle.specs.Orders.{read_in};
@@ -108,4 +108,16 @@ pub fn others(row: &[u32; 2], other: &u8) -> u32
     ensures { result ≤ 64 }
 {
     64 - row.count_common(other)
+}
+
+/// Returns how many bits are set in `whole` and not in `part`, or `None` if `part` has a bit that
+/// is unset in `whole`.
+pub fn count_missing(part: u64, whole: &[u64; 4]) -> Option<u32>
+    ensures { IfSome result (λ missing. missing + size (bit_set 64 part)
+        ≡ size (row_set 4 64 (bit_set 64) whole.now)) }
+{
+    if !part.is_subset(whole) {
+        return None;
+    }
+    Some(whole.count_ones() - Bits::count_ones(&part))
 }

@@ -1,10 +1,11 @@
--- Facts about the index that a search for an unset bit found, in a set or in a union of two sets.
+-- Facts about the index that a search found, most often of an unset bit, in a set or a union of two.
 use Rattle.std.proofs.Common.{◌≡◌, ℕ, ◌+◌, ◌<◌, ◌≤◌, Bool, true, false, not, ◌||◌, nat_lt, Option}
-use Rattle.std.proofs.Common.{Some, inl, inr, refl, sym, ap, ◌∙◌, subst, arith}
+use Rattle.std.proofs.Common.{Some, None, MatchOption, inl, inr, refl, sym, ap, ◌∙◌, subst, arith}
 use Rattle.std.proofs.lemmas.Bool.{and_parts, cases_lt, ltb-true, not-false, not-true, true≢false}
 use Rattle.bittle.specs.PlainSet.{PlainSet, complement, contains, is_in_span, lacks, size}
 use Rattle.bittle.specs.Searches.{IsFirstIn, NoneIn}
 use Rattle.bittle.proofs.CallerSets.{complement_within, contains_within, size_at_most, size_full}
+use Rattle.bittle.proofs.CallerSets.{size_some}
 use Rattle.bittle_ext.specs.Combined.{either_of}
 use Rattle.bittle_ext.specs.RangeMembers.{members_within}
 use Rattle.bittle_ext.specs.Runs.{IsFirstRun}
@@ -63,6 +64,13 @@ pub unset_in_run : (s : PlainSet) (low high from n i k : ℕ) →
     contains s k ≡ false
 unset_in_run s low high from n i k run begun ends =
     unset_where_found s k (and_parts (is_in_span low high k) (lacks s k) (run.1.1 k begun ends)).1
+
+-- a set in which a search found a member is not empty
+pub size_if_found : (s : PlainSet) (from to : ℕ) (r : Option ℕ) → IsFirstIn s from to r →
+    to ≤ s.capacity → MatchOption r (NoneIn s from to) (λ _. 0 < size s)
+size_if_found s from to None none within = none
+size_if_found s from to (Some i) first within =
+    size_some s i (omega (arith, first.1, within)) first.2
 
 -- a set in which a number was found unset is not full
 pub not_full_if_found : (s : PlainSet) (i : ℕ) → lacks s i ≡ true → size s < s.capacity

@@ -191,6 +191,37 @@ pub fn own_all(pages: &mut Pages<u8>, owners: &mut [u32; 8], owner: u32) -> Opti
     pages.take()
 }
 
+/// Frees a page of any allocator, and writes 0 to its entry in `owners`, if the page is taken.
+pub fn disown_any<B: BitsOwned>(pages: &mut Pages<B>, owners: &mut [u32], page: u32)
+    requires { B.type_capacity ≤ length owners.old }
+    ensures { length owners.new ≡ length owners.old }
+{
+    if pages.give_back(page).is_ok() {
+        owners[page as usize] = 0;
+    }
+}
+
+/// Writes `owner` to the entry of each taken page of any allocator in `owners`.
+pub fn own_any<B: BitsOwned>(pages: &Pages<B>, owners: &mut [u32], owner: u32)
+    requires { B.type_capacity ≤ length owners.old }
+    ensures { length owners.new ≡ length owners.old }
+{
+    for page in pages.map().iter_ones() {
+        owners[page as usize] = owner;
+    }
+}
+
+/// Takes a page and returns it, or `None` if no page is free. `free` is how many pages are free,
+/// before the call and after it.
+pub fn take_counted<B: BitsOwned>(pages: &mut Pages<B>, free: &mut u32) -> Option<u32>
+    requires { free.old + size (set_in B.Shape B.Order.Endian pages.old.map) ≡ B.type_capacity }
+    ensures { free.new + size (set_in B.Shape B.Order.Endian pages.new.map) ≡ B.type_capacity }
+{
+    let page = pages.take()?;
+    *free -= 1;
+    Some(page)
+}
+
 /// Makes an allocator of `map`, and returns its map, which is `map` again.
 pub fn there_and_back<B: BitsOwned>(map: B) -> B
     requires { IsTrue B.indexable }

@@ -2,6 +2,7 @@ use Rattle.std.proofs.Common.{◌≡◌, ◌+◌, true, false, cond, sym, ap, �
 use Rattle.bittle.specs.PlainSet.{size, without_index}
 use Rattle.bittle.specs.Values.{set_in}
 use Rattle.bittle.proofs.CallerChanges.{size_without}
+use Rattle.bittle.proofs.CallerSets.{size_at_most}
 use Rattle.bit_entities.specs.Entities.{World, IsWorld, world_of, without_components}
 use Rattle.bit_entities.specs.Entities.{without_entity}
 use Rattle.bit_entities.proofs.Masks.{taken_out, number_now}
@@ -86,3 +87,15 @@ returns-clause-count g c =
     let within = c.args.self.now.sound.living_are_below entity lives in
     size_without w.alive entity within lives
     ∙ sym (ap (λ t. size t + 1) (c.clear_bit.ensures.set ∙ ap (λ s. without_index s entity) same))
+
+pub returns-clause-room : goal.returns-clause-room
+returns-clause-room g c done =
+    let w : World = world_of g.row.N (set_in g.B.Shape g.B.Order.Endian) c.args.self.now.alive
+    c.args.self.now.components in
+    let all = g.met.B.FixedCapacity.one_capacity c.args.self.now.alive in
+    omega (
+      arith,
+      returns-clause-count g c,
+      size_at_most w.alive,
+      all,
+    )

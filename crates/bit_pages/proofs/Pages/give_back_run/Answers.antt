@@ -2,6 +2,7 @@ use Rattle.std.proofs.Common.{false, ◌+◌, cond, sym, ap, ◌∙◌, subst, a
 use Rattle.bittle.specs.PlainSet.{PlainSet, size, without_span}
 use Rattle.bittle.specs.Searches.{NoneIn}
 use Rattle.bittle.specs.Values.{set_in}
+use Rattle.bittle.proofs.CallerSets.{size_at_most}
 use Rattle.bit_pages.proofs.RunCounts.{given_counts, others_stay, run_is_given}
 use Rattle.bit_pages.proofs.Pages.give_back_run.Goals as goal
 
@@ -30,6 +31,19 @@ returns-clause-free g c =
     let old : PlainSet = set_in g.B.Shape g.B.Order.Endian c.args.self.now.map in
     λ _. subst (λ s. NoneIn s c.args.first (c.args.first + c.args.length))
     (sym c.clear_range.ensures.set) (run_is_given old c.args.length c.args.first)
+
+pub returns-clause-room : goal.returns-clause-room
+returns-clause-room g c done =
+    let old : PlainSet = set_in g.B.Shape g.B.Order.Endian c.args.self.now.map in
+    let run = c.is_run_taken.ensures.taken.0 c.if-not-is_run_taken.false in
+    let capacity = g.met.B.FixedCapacity.one_capacity c.args.self.now.map in
+    omega (
+      arith,
+      given_counts old c.args.length c.args.first run,
+      ap size c.clear_range.ensures.set,
+      size_at_most old,
+      capacity,
+    )
 
 pub returns-clause-count : goal.returns-clause-count
 returns-clause-count g c =

@@ -16,5 +16,6 @@ returns-then-end-bits g c =
     (c.all_in_range.ensures.unset (omega (arith, capacity, bits, c.if-end-bits.true))) in
     record {
       taken = both;
+      within = λ e. omega (arith, bits, c.if-end-bits.true);
       whole = run_answer map c.args.first c.args.length c.all_in_range.result both.0 both.1;
     }

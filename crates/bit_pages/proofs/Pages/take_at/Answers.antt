@@ -40,6 +40,14 @@ invariant_of-self g c =
       );
     }
 
+pub returns-clause-had_room : goal.returns-clause-had_room
+returns-clause-had_room g c =
+    let it = free g (goal.at.returns-clause-had_room g c).After-set_bit in
+    let more = one_more _ _ c.args.page it.0 it.1 c.set_bit.ensures.set in
+    let most = size_at_most (set_in g.B.Shape g.B.Order.Endian c.set_bit.new.self) in
+    let full = g.met.B.FixedCapacity.one_capacity c.set_bit.new.self in
+    λ _. omega (arith, more, most, full)
+
 pub returns-clause-taken : goal.returns-clause-taken
 returns-clause-taken g c =
     let it = free g (goal.at.returns-clause-taken g c).After-set_bit in

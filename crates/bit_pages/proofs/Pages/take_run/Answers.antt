@@ -23,6 +23,14 @@ invariant_of-self-2 g c =
     let more : size new ≡ size old + c.args.length = c.in_ok-first.ensures.more in
     record { fits = c.args.self.now.fits; counted = omega (arith, more, c.args.self.now.counted) }
 
+pub returns-clause-had_room : goal.returns-clause-had_room
+returns-clause-had_room g c =
+    let old : PlainSet = set_in g.B.Shape g.B.Order.Endian c.args.self.now.map in
+    let new : PlainSet = set_in g.B.Shape g.B.Order.Endian c.take_first_zero_run.new.self in
+    let more : size new ≡ size old + c.args.length = c.in_ok-first.ensures.more in
+    let capacity = g.met.B.FixedCapacity.one_capacity c.take_first_zero_run.new.self in
+    omega (arith, more, size_at_most new, capacity)
+
 pub returns-clause-were_free : goal.returns-clause-were_free
 returns-clause-were_free g c =
     let old : PlainSet = set_in g.B.Shape g.B.Order.Endian c.args.self.now.map in

@@ -30,6 +30,13 @@ invariant_of-self g c = record {
   counted = omega (arith, more g c, c.args.self.now.counted);
 }
 
+pub returns-clause-had_room : goal.returns-clause-had_room
+returns-clause-had_room g c =
+    let many = more g (goal.at.returns-clause-had_room g c).After-set_range in
+    let most = size_at_most (set_in g.B.Shape g.B.Order.Endian c.set_range.new.self) in
+    let full = g.met.B.FixedCapacity.one_capacity c.set_range.new.self in
+    λ _. omega (arith, many, most, full)
+
 pub returns-clause-taken : goal.returns-clause-taken
 returns-clause-taken g c =
     let old : PlainSet = set_in g.B.Shape g.B.Order.Endian c.args.self.now.map in

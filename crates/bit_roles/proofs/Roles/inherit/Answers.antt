@@ -1,10 +1,11 @@
-use Rattle.std.proofs.Common.{◌<◌, Some, length, inr, ap, sym, subst, ◌∙◌, arith}
+use Rattle.std.proofs.Common.{◌<◌, Some, length, inl, inr, ap, sym, subst, ◌∙◌, arith}
 use Rattle.std.proofs.lemmas.Option.{same_Some}
 use Rattle.bittle.specs.Values.{set_in}
 use Rattle.bit_roles.specs.Roles.{Allows, LeadsTo, ancestor, may_inherit, roles_of}
 use Rattle.bit_roles.specs.declared.Request.TheVariants.{Inherit}
-use Rattle.bit_roles.proofs.RoleLaws.{done_exactly, less_both, inherit_gives, other_parents_keep}
-use Rattle.bit_roles.proofs.RoleLaws.{others_allow_same, leads_as_parent, lesser_still_lead}
+use Rattle.bit_roles.proofs.RoleLaws.{done_exactly, less_both, inherit_gives, inherit_replaces}
+use Rattle.bit_roles.proofs.RoleLaws.{leads_as_parent, lesser_still_lead, other_parents_keep}
+use Rattle.bit_roles.proofs.RoleLaws.{others_allow_same}
 use Rattle.bit_roles.proofs.Rows.{lesser_written, parent_written, row_with_parent}
 use Rattle.bit_roles.proofs.Roles.inherit.Goals as goal
 
@@ -48,6 +49,27 @@ returns-clause-allows g c allowed done was =
     let gives = inherit_gives roles c.args.role c.args.parent allowed c.args.self.now.lesser is_done
     in subst (λ r. Allows r c.args.role allowed) (sym (returns-clause-roles g c))
     (gives.1 (inr was))
+
+pub returns-clause-allows_own : goal.returns-clause-allows_own
+returns-clause-allows_own g c allowed done has =
+    let roles = roles_of g.row.N g.B.Shape.type_capacity (set_in g.B.Shape g.B.Order.Endian)
+    c.args.self.now.granted c.args.self.now.parents in
+    let is_done = (done_exactly roles (Inherit c.args.role c.args.parent)).1
+    (omega arith, omega arith) in
+    let gives = inherit_gives roles c.args.role c.args.parent allowed c.args.self.now.lesser is_done
+    in subst (λ r. Allows r c.args.role allowed) (sym (returns-clause-roles g c))
+    (gives.1 (inl has))
+
+pub returns-clause-heirs : goal.returns-clause-heirs
+returns-clause-heirs g c other allowed done leads is =
+    let roles = roles_of g.row.N g.B.Shape.type_capacity (set_in g.B.Shape g.B.Order.Endian)
+    c.args.self.now.granted c.args.self.now.parents in
+    let is_done = (done_exactly roles (Inherit c.args.role c.args.parent)).1
+    (omega arith, omega arith) in
+    let replaces = inherit_replaces roles c.args.role c.args.parent other allowed
+    c.args.self.now.lesser is_done in
+    subst (λ r. Allows r other allowed) (sym (returns-clause-roles g c))
+    (replaces.1 (inr (leads, is)))
 
 pub returns-clause-allows_only : goal.returns-clause-allows_only
 returns-clause-allows_only g c allowed done is =

@@ -3,7 +3,7 @@ use Rattle.bit_slots.proofs.KeyHistories.{key_holds}
 use Rattle.bittle.specs.PlainSet.{PlainSet}
 use Rattle.bittle.specs.Values.{set_in}
 use Rattle.bit_slots.specs.SlotSets.{is_free, is_live, is_slot}
-use Rattle.bit_slots.proofs.SlotCounts.{count_joins, free_lacks}
+use Rattle.bit_slots.proofs.SlotCounts.{count_at_most, count_joins, free_lacks}
 use Rattle.bit_slots.proofs.SlotMarks.{slot_within, marks_with, marks_without}
 use Rattle.bit_slots.proofs.Slots.insert.Given.{Over}
 use Rattle.bit_slots.proofs.Slots.insert.Goals.{In-Some}
@@ -49,3 +49,11 @@ returns-clause-count g c =
     (omega (arith, c.bits.ensures.value old.fits, c.in-Some.ensures.1))
     (free_lacks old.row.now slot (was_free g (goal.at.returns-clause-count g c).In-Some))
     c.fill-key.ensures.live
+
+pub returns-clause-had_room : goal.returns-clause-had_room
+returns-clause-had_room g c = omega (
+  arith,
+  returns-clause-count g c,
+  count_at_most is_live c.fill-key.new.row g.B.Shape.type_capacity,
+  c.fill-key.ensures.same_length,
+)

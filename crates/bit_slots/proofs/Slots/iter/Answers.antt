@@ -1,6 +1,7 @@
 use Rattle.std.proofs.Common.{◌≡◌, ◌+◌, ap, slice_get, arith}
 use Rattle.bit_slots.proofs.RowEntries.{entries_are, entries_at_most, entries_have, entry_within}
 use Rattle.bit_slots.proofs.RowEntries.{slots_rise}
+use Rattle.bit_slots.proofs.SlotCounts.{entries_count}
 use Rattle.bit_slots.proofs.Slots.iter.Goals as goal
 
 pub returns-clause-found : goal.returns-clause-found
@@ -21,3 +22,7 @@ returns-clause-within g c k d h =
 
 pub returns-clause-at_most : goal.returns-clause-at_most
 returns-clause-at_most g c = entries_at_most c.args.self.now.row.now 0
+
+pub returns-clause-count : goal.returns-clause-count
+returns-clause-count g c =
+    entries_count c.args.self.now.row.now 0 _ c.args.self.now.covers
