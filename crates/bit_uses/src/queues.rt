@@ -25,8 +25,8 @@ pub fn run_two<B: BitsOwned>(queue: &mut PriorityQueue<B>) -> Option<(u32, u32)>
     Some((first, second))
 }
 
-/// Serves events, and counts one more run in the entry of `runs` of the task that answer `i` says
-/// runs, if it says so, unless that entry is `u32::MAX`.
+/// Serves events. If answer `i` says that a task runs, the call adds 1 to the entry of this task in
+/// `runs`, unless that entry is `u32::MAX`.
 pub fn serve_and_count<B: BitsOwned>(
     queue: &mut PriorityQueue<B>,
     events: &[Event],
@@ -37,6 +37,9 @@ pub fn serve_and_count<B: BitsOwned>(
     requires as_long { length answers.old ≡ length events.now }
     requires i { i < length events.now }
     requires runs { B.type_capacity ≤ length runs.old }
+    ensures answers { answers.new
+        ≡ event_answers (set_in B.Shape B.Order.Endian queue.old.ready) events.now }
+    ensures same_length { length runs.new ≡ length runs.old }
 {
     queue.serve(events, answers);
     if let Answer::Runs(task) = answers[i] {

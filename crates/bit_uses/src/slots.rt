@@ -3,11 +3,12 @@
 
 ghost use Rattle.std.specs.Prelude.{◌≡◌, ◌≢◌, ◌+◌, ◌<◌, ◌≤◌, ℕ, false, length, map, slice_get, sum};
 ghost use Rattle.std.specs.Prelude.{List, [], ◌∷◌, if◌then◌else◌};
-ghost use Rattle.std.specs.Prelude.{true, is_some, option_map, IfOk, IfSome, None, Some};
+ghost use Rattle.std.specs.Prelude.{true, is_some, option_map, IfOk, IfSome, MatchOption, None};
+ghost use Rattle.std.specs.Prelude.{Some};
 ghost use Rattle.bit_slots.specs.Entries.{entries};
 ghost use Rattle.bit_slots.specs.KeyLaws.{Call, IsHistory, Inserts, Removes, Replaces, Refuses};
 ghost use Rattle.bit_slots.specs.Keys.{found, stages, Stages};
-ghost use Rattle.bit_slots.specs.SlotSets.{live_count};
+ghost use Rattle.bit_slots.specs.SlotSets.{is_free, is_slot, live_count};
 ghost use Rattle.bit_slots.specs.declared.Key.{Key};
 
 use bit_slots::{Key, Slot, Slots, key_laws};
@@ -267,8 +268,12 @@ pub fn insert_counted<V: Drop, B: BitsOwned>(
 ) -> Option<Key>
     requires { rest.old + live_count B.type_capacity slots.old.row.now
         ≡ length slots.old.row.now }
-    ensures { rest.new + live_count B.type_capacity slots.new.row.now
+    ensures rest { rest.new + live_count B.type_capacity slots.new.row.now
         ≡ length slots.new.row.now }
+    ensures key { MatchOption result
+        ((slot : ℕ) → slot < length slots.old.row.now
+        → is_slot is_free slots.old.row.now slot ≡ false)
+        (λ key. found (stages slots.new.row.now key.slot key.generation) ≡ Some value) }
 {
     let key = slots.insert(value).ok()?;
     *rest -= 1;
