@@ -48,8 +48,8 @@ members_between-inner s a b c lo hi is before after =
 
 -- the items of word k are the members of the set from k * w on
 pub items_of-word : (m : Bool) (w k : ℕ) (s : PlainSet) (d : ℕ) → 0 < w →
-    bit_set w d ≡ word_of w s k → items_of m w d (k * w) ≡ members_between (read_in m w s) (k * w)
-    (k * w + w)
+    bit_set w d ≡ word_of w s k → items_of m w (bit_set w d) (k * w)
+    ≡ members_between (read_in m w s) (k * w) (k * w + w)
 unfolding members_between
 items_of-word m w k s d word is =
     let n : k * w + w - k * w ≡ w = omega arith in

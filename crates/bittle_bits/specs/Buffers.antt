@@ -1,6 +1,6 @@
 -- Buffered words: the items that remain in each, and what a scan takes.
 use Rattle.std.specs.Prelude.{◌≡◌, ◌≢◌, ℕ, ◌+◌, ◌-◌, ◌*◌, ◌<◌, Bool, true, false, cond, List, []}
-use Rattle.std.specs.Prelude.{map, Option, Some, None, MatchBool, MatchOption}
+use Rattle.std.specs.Prelude.{map, Option, Some, None, MatchBool, MatchOption, bit_and}
 use Rattle.bittle_bits.specs.BitPatterns.{bit_set}
 use Rattle.bittle_bits.specs.Ends.{with_end}
 use Rattle.bittle_bits.specs.Orders.{read_in}
@@ -19,9 +19,8 @@ members_between s from to = ascending_from s.has from (to - from)
 -- The indexes of the set bits of a word of w bits, read in an order, each plus base. If the word
 -- was fetched from a set in which its first bit has the index base, these are the indexes of its
 -- set bits in that set.
-abbrev pub items_of : Bool → ℕ → ℕ → ℕ → List ℕ
-items_of mirrored w pattern base = map (λ i. base + i)
-    (ascending (read_in mirrored w (bit_set w pattern)))
+abbrev pub items_of : Bool → ℕ → PlainSet → ℕ → List ℕ
+items_of mirrored w bits base = map (λ i. base + i) (ascending (read_in mirrored w bits))
 
 -- by how much the index of a word's bit of least weight exceeds the index of the word's first bit:
 -- 0 in big-endian order, w - 1 in little-endian order
@@ -29,21 +28,26 @@ abbrev pub edge_from_first : Bool → ℕ → ℕ
 edge_from_first false w = 0
 edge_from_first true w = w - 1
 
+-- the bits that are left in a buffered word of w bits: those that are set in the word and in its
+-- mask
+abbrev pub bits_left : {W : Type 0} → ℕ → (W → ℕ) → BufferedWord W → PlainSet
+bits_left w pattern c = bit_set w (bit_and (pattern c.word) (pattern c.mask))
+
 -- the items of a buffered word, or None if no word is loaded
 unfoldable pub buffered_items : {W : Type 0} → Bool → ℕ → (W → ℕ) → BufferedWord W → Option (List ℕ)
 buffered_items mirrored w pattern c = cond c.is_loaded
-    (Some (items_of mirrored w (pattern c.word) (c.edge - edge_from_first mirrored w)))
+    (Some (items_of mirrored w (bits_left w pattern c) (c.edge - edge_from_first mirrored w)))
     None
 
 -- the indexes of a loaded word fit in 32 bits, and a buffer with no word loaded has no item
 unfoldable pub IsSound : {W : Type 0} → Bool → ℕ → (W → ℕ) → BufferedWord W → Type 0
 IsSound mirrored w pattern c = (c.is_loaded ≡ true →
     (first : ℕ) × (c.edge ≡ first + edge_from_first mirrored w) × (first + w < 4294967296))
-    × (c.is_loaded ≡ false → ascending (read_in mirrored w (bit_set w (pattern c.word))) ≡ [])
+    × (c.is_loaded ≡ false → ascending (read_in mirrored w (bits_left w pattern c)) ≡ [])
 
 -- the items of a word if it is word k of a set
 abbrev pub word_items : {W E : Type 0} → word.Ghosts W → endian.Ghosts E → W → ℕ → List ℕ
-word_items t e v k = items_of e.mirrored t.width (t.pattern v) (k * t.width)
+word_items t e v k = items_of e.mirrored t.width (bit_set t.width (t.pattern v)) (k * t.width)
 
 -- the indexes of the bits of a kind (set or unset) in word n of a value, read in an order
 abbrev pub members_in_word : {V W E K : Type 0} → shape.Ghosts V W → endian.Ghosts E →

@@ -3,10 +3,14 @@
 //! item left.
 
 ghost use Rattle.std.specs.Prelude.{◌≡◌, ℕ, ◌+◌, ◌-◌, ◌*◌, ◌<◌, not, cond, false, Some, None};
-ghost use Rattle.bittle_bits.specs.Buffers.{edge_from_first, buffer_count, buffer_of, items_held};
-ghost use Rattle.bittle_bits.specs.Buffers.{members_in_word, word_items, HoldsSound, Refills};
-ghost use Rattle.bittle_bits.specs.Buffers.{ScansFrom, TellsExhausted};
-ghost use Rattle.bittle_bits.specs.Orders.{place};
+ghost use Rattle.std.specs.Prelude.{IfSome};
+ghost use Rattle.bittle_bits.specs.BitPatterns.{bit_set};
+ghost use Rattle.bittle_bits.specs.Buffers.{bits_left, edge_from_first, buffer_count, buffer_of};
+ghost use Rattle.bittle_bits.specs.Buffers.{items_held, members_in_word, word_items, HoldsSound};
+ghost use Rattle.bittle_bits.specs.Buffers.{Refills, ScansFrom, TellsExhausted};
+ghost use Rattle.bittle_bits.specs.Ends.{YieldsPlace};
+ghost use Rattle.bittle_bits.specs.Orders.{place, read_in};
+ghost use Rattle.bittle_bits.specs.PlainSet.{ascending, full_set};
 ghost use Rattle.bittle_bits.specs.Values.{ShapeFits};
 
 use crate::end::End;
@@ -88,13 +92,19 @@ impl Count {
 
 const _: () = prove!(size_of::<Count>() == 0);
 
-// A buffer for one word of a set. `edge` is the index in the set of the word's bit of least weight.
-// From `edge`, the indexes of the other bits go up in big-endian order, and down in little-endian
-// order. If no word is loaded, or if the word is exhausted, no bit of `word` is set. So a step
-// tests only `word`; `is_loaded` is used only to count scans.
+// A buffer for one word of a set. Its items are the bits that are set in both `word` and `mask`. A
+// step may take its item by a new mask, and leave `word` as it is; the next step combines the two.
+// `edge` is the index in the set of the word's bit of least weight. From `edge`, the indexes of the
+// other bits go up in big-endian order, and down in little-endian order. If no word is loaded, or
+// if the word is exhausted, no bit is set in both. So a step tests only these bits; `is_loaded` is
+// used only to count scans.
+//
+// The word stands before the mask. In the other order the compiler makes the mask from a copy of
+// the word, with one instruction more.
 #[derive(Clone, Copy)]
 struct BufferedWord<W: Copy> {
     word: W,
+    mask: W,
     edge: u32,
     is_loaded: bool,
 }
@@ -127,6 +137,7 @@ fn buffered<W: Word, E: Endian, N: End>(word: W, k: usize) -> BufferedWord<W>
     };
     BufferedWord {
         word,
+        mask: one_word::ones::<W>(),
         edge: if E::is_mirrored() {
             first + (W::width() - 1)
         } else {
@@ -136,12 +147,27 @@ fn buffered<W: Word, E: Endian, N: End>(word: W, k: usize) -> BufferedWord<W>
     }
 }
 
+// Clears the bits of a buffered word that are not set in its mask, and sets each bit of the mask.
+// The items stay as they are.
+#[inline(always)]
+fn settle<W: Word>(buffered: &mut BufferedWord<W>)
+    ensures word { bit_set W.width (W.pattern buffered.new.word)
+        ≡ bits_left W.width W.pattern buffered.old }
+    ensures mask { bit_set W.width (W.pattern buffered.new.mask) ≡ full_set W.width }
+    ensures edge { buffered.new.edge ≡ buffered.old.edge }
+    ensures is_loaded { buffered.new.is_loaded ≡ buffered.old.is_loaded }
+{
+    buffered.word = buffered.word.and(buffered.mask);
+    buffered.mask = one_word::ones::<W>();
+}
+
 // Drops a buffered word that has no item. If the word was loaded, the test that found no item
 // counts as its last scan.
 #[inline(always)]
 fn unload<W: Copy>(buffered: &mut BufferedWord<W>, scans: &mut Count)
     ensures dropped { buffered.new ≡ record {
       word = buffered.old.word;
+      mask = buffered.old.mask;
       edge = buffered.old.edge;
       is_loaded = false;
     } }
@@ -181,18 +207,44 @@ fn is_exhausted<W: Word, E: Endian>(buffered: &mut BufferedWord<W>, scans: &mut 
         (buffer_count (items_held W.Word E.Endian buffered.old)) 0 }
     ensures sound { HoldsSound W.Word E.Endian buffered.new }
 {
-    if !one_word::all_zeros::<W>(buffered.word) {
+    let left = buffered.word.and(buffered.mask);
+    if !one_word::all_zeros::<W>(left) {
+        // Only now, so that a step of an iterator in memory stores its mask once.
+        settle(buffered);
         return false;
     }
     unload(buffered, scans);
     true
 }
 
-// Scans a buffered word, and takes its item at the end `N`. If it has no item, a loaded word is
-// dropped, and the call returns `None`.
+// Takes the item at the end `N` from a buffered word, and returns the place of its bit. It returns
+// `None` if the word has no item. If `lazily` is `true`, and the item is the set bit of least
+// weight in a word of at most 64 bits, the call leaves this bit to the next call. That call has to
+// test the word, and one instruction both clears the bit and tests what is left.
+#[inline(always)]
+fn pop<W: Word, E: Endian, N: End>(buffered: &mut BufferedWord<W>, lazily: bool) -> Option<u32>
+    ensures found { YieldsPlace N.FRONT (place E.mirrored W.width) (λ bits. ascending
+        (read_in E.mirrored W.width bits)) (bits_left W.width W.pattern buffered.old) result
+        (bits_left W.width W.pattern buffered.new) }
+    ensures within { IfSome result (λ at. at < W.width) }
+    ensures edge { buffered.new.edge ≡ buffered.old.edge }
+    ensures is_loaded { buffered.new.is_loaded ≡ buffered.old.is_loaded }
+{
+    settle(buffered);
+    let is_whole = W::width() < 128;
+    if !lazily || !is_whole || E::is_mirrored() == N::FRONT || buffered.word.is_zero() {
+        return one_word::pop_place::<W, E, N>(&mut buffered.word);
+    }
+    buffered.mask = W::from_bits(buffered.word.to_bits() - 1);
+    Some(one_word::from_end::<W, E, N>(buffered.word))
+}
+
+// Scans a buffered word, and takes its item at the end `N`, `lazily` or not. If it has no item, a
+// loaded word is dropped, and the call returns `None`.
 #[inline(always)]
 fn scan<W: Word, E: Endian, N: End>(
     buffered: &mut BufferedWord<W>,
+    lazily: bool,
     scans: &mut Count,
 ) -> Option<u32>
     requires { HoldsSound W.Word E.Endian buffered.old }
@@ -202,7 +254,7 @@ fn scan<W: Word, E: Endian, N: End>(
         ≡ scans.old + buffer_count (items_held W.Word E.Endian buffered.old) }
     ensures sound { HoldsSound W.Word E.Endian buffered.new }
 {
-    let Some(at) = one_word::pop_place::<W, E, N>(&mut buffered.word) else {
+    let Some(at) = pop::<W, E, N>(buffered, lazily) else {
         unload(buffered, scans);
         return None;
     };
@@ -241,14 +293,17 @@ impl<W: Word, E: Endian> Model for Buffers<W, E> {
 }
 
 impl<W: Word, E: Endian> Buffers<W, E> {
-    /// Makes two buffers with no word loaded. The counts of scans and of fetches are 0.
+    /// Makes two buffers with no word loaded. The counts of scans and of fetches are 0. The number
+    /// of the set's words decides nothing. It only makes a mask that is no constant: with a
+    /// constant, the compiler would clear and test by two instructions in each step.
     #[inline(always)]
     #[tactic(auto, unfolding(crate::specs::Buffers::buffered_items))]
-    pub fn none() -> Buffers<W, E>
+    pub fn none(words: usize) -> Buffers<W, E>
         ensures { result ≡ record { head = None; tail = None; scans = 0; fetches = 0 } }
     {
         let none = BufferedWord {
-            word: one_word::zeros::<W>(),
+            word: W::zero(),
+            mask: W::from_bits(words as u128 & one_word::ones::<W>().to_bits()),
             edge: 0,
             is_loaded: false,
         };
@@ -391,13 +446,16 @@ impl<W: Word, E: Endian> Buffers<W, E> {
         // It swaps field by field. A swap of whole structs would send their padding through memory.
         let BufferedWord {
             word,
+            mask,
             edge,
             is_loaded,
         } = self.head;
         self.head.word = self.tail.word;
+        self.head.mask = self.tail.mask;
         self.head.edge = self.tail.edge;
         self.head.is_loaded = self.tail.is_loaded;
         self.tail.word = word;
+        self.tail.mask = mask;
         self.tail.edge = edge;
         self.tail.is_loaded = is_loaded;
     }
@@ -423,9 +481,10 @@ impl<W: Word, E: Endian> Buffers<W, E> {
 
     /// Scans the word at the end `N`, and takes its item at that end. At the front this word is the
     /// head, at the back it is the tail. If it has no item, a loaded word is dropped, and the call
-    /// returns `None`.
+    /// returns `None`. If `lazily` is `true`, the call may leave it to the next one to clear the
+    /// item's bit.
     #[inline(always)]
-    pub fn scan<N: End>(&mut self) -> Option<u32>
+    pub fn scan<N: End>(&mut self, lazily: bool) -> Option<u32>
         ensures found { ScansFrom N.FRONT (buffer_of N.FRONT self.old) result
             (buffer_of N.FRONT self.new) }
         ensures scans { self.new.scans
@@ -434,9 +493,9 @@ impl<W: Word, E: Endian> Buffers<W, E> {
         ensures fetches { self.new.fetches ≡ self.old.fetches }
     {
         if N::FRONT {
-            scan::<W, E, N>(&mut self.head, &mut self.scans)
+            scan::<W, E, N>(&mut self.head, lazily, &mut self.scans)
         } else {
-            scan::<W, E, N>(&mut self.tail, &mut self.scans)
+            scan::<W, E, N>(&mut self.tail, lazily, &mut self.scans)
         }
     }
 
@@ -453,7 +512,9 @@ impl<W: Word, E: Endian> Buffers<W, E> {
         ensures fetches { self.new.fetches ≡ self.old.fetches }
     {
         self.exchange();
-        let found = self.scan::<N>();
+        // Lazily, the compiler would search the word before it tests whether the word has an item.
+        // That was slower for a set of one word.
+        let found = self.scan::<N>(false);
         self.exchange();
         found
     }

@@ -46,7 +46,7 @@ pub fn begin<B: ReadWords, E: Endian, K: Kind>(source: &Source<'_, B>) -> Cursor
     let low = source.pass_over::<K, Front>(0, words, &mut passed);
     let high = source.pass_over::<K, Back>(low, words, &mut passed);
     let mut at = Cursor {
-        buffers: Buffers::none(),
+        buffers: Buffers::none(words),
         low,
         high,
         items: Count::new(),
@@ -202,7 +202,7 @@ pub fn step<B: ReadWords, E: Endian, K: Kind, N: End>(
     ensures counted { IsCountedIn B.Shape source.now.set.now at.new }
 {
     if seek::<B, E, K, N>(source, at) {
-        let found = at.buffers.scan::<N>();
+        let found = at.buffers.scan::<N>(true);
         if found.is_some() {
             at.items.raise();
         }

@@ -1,5 +1,7 @@
 use Rattle.std.proofs.Common.{◌≡◌, ◌+◌, ◌*◌, Some, ap, ◌∙◌, arith}
+use Rattle.bittle_bits.specs.BitPatterns.{bit_set}
 use Rattle.bittle_bits.specs.Buffers.{edge_from_first, buffered_items, items_of, IsSound}
+use Rattle.bittle_bits.proofs.BufferedWords.{left_by_all}
 use Rattle.bittle_bits.proofs.internal.buffer.buffered.Given.{Over}
 use Rattle.bittle_bits.proofs.internal.buffer.buffered.Goals.{Joined-is_mirrored, then-FRONT}
 use Rattle.bittle_bits.proofs.internal.buffer.buffered.Goals.{else-FRONT, then-is_mirrored}
@@ -26,8 +28,11 @@ edge g c = elim c.if-is_mirrored.branch [
 pub returns-clause-items : goal.returns-clause-items
 unfolding buffered_items
 returns-clause-items g c =
-    ap (λ base. Some (items_of g.E.Endian.mirrored g.W.Word.width (g.W.Word.pattern c.args.word)
-    base)) (omega (arith, edge g c))
+    let w = g.W.Word.width in
+    let word = g.W.Word.pattern c.args.word in
+    rw (left_by_all w word _ c.ones.ensures.value)
+    (ap (λ base. Some (items_of g.E.Endian.mirrored w (bit_set w word) base))
+    (omega (arith, edge g c)))
 
 pub returns-clause-sound : goal.returns-clause-sound
 unfolding IsSound

@@ -1,4 +1,4 @@
-use Rattle.std.proofs.Common.{◌≡◌, ◌+◌, ◌*◌, ◌/◌, ◌≤◌, MatchOption, min, subst, sym, ap, ◌∙◌, arith}
+use Rattle.std.proofs.Common.{◌≡◌, ◌*◌, ◌/◌, ◌≤◌, MatchOption, min, subst, sym, ap, ◌∙◌, arith}
 use Rattle.std.proofs.Math.Nat.{div-eq_of_lt, min-le_left, min-le_right}
 use Rattle.bittle_bits.specs.Decided.{NoneDecidedBelow, IsFirstDecided}
 use Rattle.bittle_bits.specs.LawProofs.{whole_lesser}

@@ -1,13 +1,17 @@
 use Rattle.std.proofs.Common.{◌∙◌, ap, refl}
-use Rattle.bittle_bits.specs.PlainSet.{ascending, empty_set}
-use Rattle.bittle_bits.proofs.AscendingLists.{ascending-none}
+use Rattle.std.specs.Int.Bits.{and_zero_l, bit_and}
 use Rattle.bittle_bits.proofs.BufferedWords.{dropped}
+use Rattle.bittle_bits.proofs.WordSizes.{zero_lists_none}
 use Rattle.bittle_bits.proofs.internal.buffer.Buffers.none.Goals as goal
 
 pub invariant_of-result : goal.invariant_of-result
 invariant_of-result g c =
+    let m = g.E.Endian.mirrored in
     let w = g.W.Word.width in
-    let none = ap ascending (c.zeros.ensures.in_each_order g.E.Endian.mirrored)
-    ∙ ascending-none (empty_set w) (λ k h. refl) in
-    let sound = (dropped g.E.Endian.mirrored w g.W.Word.pattern c.zeros.result 0 _ none refl).1 in
+    let word = c.zero.result in
+    let mask = c.from_bits.result in
+    let pattern = g.W.Word.pattern in
+    let none = zero_lists_none m w (bit_and (pattern word) (pattern mask))
+    (ap (λ d. bit_and d (pattern mask)) c.zero.ensures ∙ and_zero_l (pattern mask)) in
+    let sound = (dropped m w pattern word mask 0 _ none refl).1 in
     (sound, sound)
