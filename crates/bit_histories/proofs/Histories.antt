@@ -1,9 +1,22 @@
 -- Lists of requests and their answers, and histories of calls.
-use Rattle.std.proofs.Common.{◌≡◌, ℕ, zero, suc, Some, List, [], ◌∷◌, ◌++◌, refl, ap, ◌∙◌, subst}
-use Rattle.std.proofs.lemmas.Option.{same_Some}
+use Rattle.std.proofs.Common.{◌≡◌, ℕ, zero, suc, ◌<◌, ◌≤◌, Some, List, [], ◌∷◌, ◌++◌, length, take}
+use Rattle.std.proofs.Common.{get_or, take_all, refl, sym, ap, ◌∙◌, subst, arith}
+use Rattle.std.proofs.lemmas.Option.{same_Some, slice_get-get_or}
 use Rattle.std.specs.List.{fold, scan}
 use Rattle.std.specs.Prelude.{map, slice_get}
 use Rattle.bit_histories.specs.Histories.{IsHistory, CallsAnswerAsLists, AnswersAreOfTheirStates}
+
+-- If the answers to the first n requests are those of a machine, and there are no more than n
+-- requests, then each answer is the machine's.
+pub answer_served : {Q A : Type 0} (answers_of : List Q → List A) (requests : List Q)
+    (answers : List A) (n i : ℕ) (d a : A) → length answers ≡ length requests →
+    length requests ≤ n → take n answers ≡ answers_of (take n requests) → i < length answers →
+    get_or answers i d ≡ a → slice_get (answers_of requests) i ≡ Some a
+answer_served answers_of requests answers n i d a as_long end had within is =
+    let all : answers ≡ answers_of requests =
+    sym (take_all n answers (omega (arith, as_long, end))) ∙ had
+    ∙ ap answers_of (take_all n requests end) in
+    ap (λ l. slice_get l i) (sym all) ∙ slice_get-get_or answers i d within ∙ ap Some is
 
 module _ {S Q A : Type 0} (answer_to : S → Q → A) (state_after : S → Q → S) where
   -- the calls of a history answer as the machine does on the list of their requests
