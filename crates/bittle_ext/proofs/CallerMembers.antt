@@ -1,6 +1,6 @@
 -- The members of a set after calls on it, for proofs of callers.
-use Rattle.std.proofs.Common.{◌≡◌, ◌≢◌, ◌==◌, ◌&&◌, ◌||◌, ℕ, ◌+◌, ◌%◌, ◌<◌, ◌≤◌, Bool, true, false}
-use Rattle.std.proofs.Common.{not, cond, nat_lt, inl, inr, refl, sym, ap, ◌∙◌, arith}
+use Rattle.std.proofs.Common.{◌≡◌, ◌≢◌, ◌==◌, ◌&&◌, ◌||◌, ℕ, ◌+◌, ◌-◌, ◌%◌, ◌<◌, ◌≤◌, Bool, true}
+use Rattle.std.proofs.Common.{false, not, cond, nat_lt, inl, inr, refl, sym, ap, ◌∙◌, arith}
 use Rattle.std.proofs.Math.Bool.{and-false, or-true}
 use Rattle.std.proofs.lemmas.Bool.{and_parts, cases_Bool, eq-eqb, ne_eqb, ltb-true, not-false}
 use Rattle.std.proofs.lemmas.Bool.{not-true}
@@ -9,6 +9,7 @@ use Rattle.bittle.proofs.CallerChanges.{contains_without_other, contains_with_ot
 use Rattle.bittle.proofs.CallerChanges.{size_with, size_without}
 use Rattle.bittle.proofs.CallerSets.{combination_within, complement_within, contains_within}
 use Rattle.bittle.proofs.CallerSets.{size_whole, with_index_within, without_index_within}
+use Rattle.bittle_bits.proofs.Sizes.{size-complement}
 use Rattle.bittle.specs.PlainSet.{PlainSet, complement, contains, empty_set, lacks, size}
 use Rattle.bittle.specs.PlainSet.{with_index, without_index}
 use Rattle.bittle.specs.Searches.{NoneIn}
@@ -26,6 +27,10 @@ unfolding lacks
 unset_where_found s i found =
     let parts = and_parts (nat_lt i s.capacity) (not (s.has i)) found in
     contains_within s i (ltb-true i s.capacity parts.0) ∙ not-true (s.has i) parts.1
+
+-- the unset bits are those that are not set
+pub size_unset : (s : PlainSet) → size (complement s) ≡ s.capacity - size s
+size_unset s = omega (arith, size-complement s)
 
 -- if a search finds no unset bit, the size of the set is its capacity
 pub full_if_none_unset : (s : PlainSet) → NoneIn (complement s) 0 s.capacity → size s ≡ s.capacity

@@ -1,7 +1,7 @@
 //! Which members a set keeps, gains or loses in a call, and how many it has then: each function
 //! needs one clause that a call promises besides the whole new set.
 
-ghost use Rattle.std.specs.Prelude.{◌≡◌, ◌<◌, ◌≤◌, ◌+◌, ℕ, IfSome, false, true};
+ghost use Rattle.std.specs.Prelude.{◌≡◌, ◌<◌, ◌≤◌, ◌+◌, ℕ, IfSome, IsSome, false, true};
 ghost use Rattle.bittle.specs.BitPatterns.{bit_set};
 ghost use Rattle.bittle.specs.PlainSet.{contains, size};
 ghost use Rattle.bittle.specs.Rows.{row_set};
@@ -75,10 +75,11 @@ pub fn median(values: u64) -> Option<u32>
 
 /// Returns the free seat in the middle: as many free seats lie below it as above it, or one more.
 /// Returns `None` if no seat is free.
-#[tactic(auto, using(bittle_ext::proofs::CallerMembers::unset_where_found))]
+#[tactic(auto, using(bittle_ext::proofs::CallerMembers::unset_where_found, bittle_ext::proofs::CallerMembers::size_unset))]
 pub fn middle_free(taken: u64) -> Option<u32>
     ensures free { IfSome result (λ seat. contains (bit_set 64 taken) seat ≡ false) }
     ensures below { IfSome result (λ seat. seat < 64) }
+    ensures some { size (bit_set 64 taken) < 64 → IsSome result }
 {
     let middle = taken.select_zero(Bits::count_zeros(&taken) / 2)?;
     Some(middle)

@@ -4,14 +4,14 @@
 //! contract of the first call alone.
 
 ghost use Rattle.std.specs.Prelude.{◌≡◌, ◌+◌, ◌≤◌, ℕ, true, IfSome, MatchOption, Option};
-ghost use Rattle.std.specs.Prelude.{option_map, slice_index, unwrap_or};
+ghost use Rattle.std.specs.Prelude.{option_map, slice_index, unwrap_or, IsSome, ◌↔◌};
 ghost use Rattle.bittle.specs.BitPatterns.{bit_set};
 ghost use Rattle.bittle.specs.Orders.{read_in};
 ghost use Rattle.bittle.specs.PlainSet.{size, without_span};
 ghost use Rattle.bittle.specs.Rows.{row_set};
 ghost use Rattle.bittle.specs.Values.{set_in, ShapeFits};
 ghost use Rattle.bittle_ext.specs.Combined.{both_of};
-ghost use Rattle.bittle_ext.specs.SetRelations.{IsFirstAlone, IsFirstCommon};
+ghost use Rattle.bittle_ext.specs.SetRelations.{IsFirstAlone, IsFirstCommon, IsSubset};
 
 use bittle::{Bits, BitsMut, LittleEndian, Set};
 use bittle_ext::{BitsMutExt, BitsRelationExt, BitsViewExt};
@@ -113,7 +113,9 @@ pub fn others(row: &[u32; 2], other: &u8) -> u32
 /// Returns how many bits are set in `whole` and not in `part`, or `None` if `part` has a bit that
 /// is unset in `whole`.
 pub fn count_missing(part: u64, whole: &[u64; 4]) -> Option<u32>
-    ensures { IfSome result (λ missing. missing + size (bit_set 64 part)
+    ensures subset { IsSome result
+        ↔ IsSubset (bit_set 64 part) (row_set 4 64 (bit_set 64) whole.now) }
+    ensures missing { IfSome result (λ missing. missing + size (bit_set 64 part)
         ≡ size (row_set 4 64 (bit_set 64) whole.now)) }
 {
     if !part.is_subset(whole) {
