@@ -28,7 +28,7 @@ unset_where_found s i found =
     let parts = and_parts (nat_lt i s.capacity) (not (s.has i)) found in
     contains_within s i (ltb-true i s.capacity parts.0) ∙ not-true (s.has i) parts.1
 
--- the unset bits are those that are not set
+-- the set bits and the unset bits are together as many as the capacity
 pub size_unset : (s : PlainSet) → size (complement s) ≡ s.capacity - size s
 size_unset s = omega (arith, size-complement s)
 
