@@ -9,31 +9,12 @@ use Rattle.std.proofs.lemmas.Bool.{and_parts, cases_eq, eq-eqb, ne_eqb, lt-ltb, 
 use Rattle.bittle_bits.specs.PlainSet.{PlainSet, contains, with_index, has_with, without_index}
 use Rattle.bittle_bits.specs.PlainSet.{has_without, with_span_changed, has_changed, with_span}
 use Rattle.bittle_bits.specs.PlainSet.{without_span, count_below, members_below, size}
+pub use Rattle.bittle_bits.proofs.ChangedBits.{contains_after_clear, contains_after_set}
+pub use Rattle.bittle_bits.proofs.ChangedBits.{contains_with, contains_without}
 use Rattle.bittle_bits.proofs.Counts.{count-add, count-never, count-others, count-same}
 use Rattle.bittle_bits.proofs.MembersBelow.{below_between}
 use Rattle.bittle_bits.proofs.Spans.{inside_span, outside_span}
 use Rattle.bittle.proofs.CallerSets.{contains_within, with_index_within, without_index_within}
-
--- an index is in the set that it was put into
-pub contains_with : (s : PlainSet) (i : ℕ) → 0 < s.capacity → contains (with_index s i) i ≡ true
-unfolding contains has_with
-contains_with s i some =
-    let is : nat_lt 0 s.capacity ≡ true = lt-ltb 0 s.capacity some in
-    let same : ((i % s.capacity) == (i % s.capacity)) ≡ true = eq-eqb _ _ refl in
-    rw (is, same) refl
-
--- an index is not in the set that it was taken out of
-pub contains_without : (s : PlainSet) (i : ℕ) → contains (without_index s i) i ≡ false
-unfolding contains has_without
-contains_without s i = by (nat_lt 0 s.capacity)
-  where
-    same : ((i % s.capacity) == (i % s.capacity)) ≡ true
-    same = eq-eqb _ _ refl
-
-    by : (b : Bool) → (b && (not (b && ((i % s.capacity) == (i % s.capacity)))
-        && s.has (i % s.capacity))) ≡ false
-    by true = rw same refl
-    by false = refl
 
 -- putting in an index does not change the test of another one
 pub contains_with_other : (s : PlainSet) (i j : ℕ) → i < s.capacity → j < s.capacity → j ≢ i →
@@ -262,15 +243,6 @@ size_without_span s from to h l =
 
 -- ---- The same facts for a set t, where a clause states that t is the set s after a change. The
 -- prover's search finds that clause as a premise, so a caller can state a fact about its own value.
-
--- the index that was set is a member
-pub contains_after_set : (s t : PlainSet) (i : ℕ) → t ≡ with_index s i → 0 < s.capacity →
-    contains t i ≡ true
-contains_after_set s t i is some = ap (λ u. contains u i) is ∙ contains_with s i some
-
--- the index that was cleared is no member
-pub contains_after_clear : (s t : PlainSet) (i : ℕ) → t ≡ without_index s i → contains t i ≡ false
-contains_after_clear s t i is = ap (λ u. contains u i) is ∙ contains_without s i
 
 -- a member stays a member after another index was set
 pub still_set_after_set : (s t : PlainSet) (i j : ℕ) → t ≡ with_index s i → contains s j ≡ true →

@@ -9,6 +9,7 @@ pub mod FromIndex
 pub mod Halves
 pub mod PlaceLemmas
 pub mod PlainSets
+pub mod ChangedBits
 pub mod IteratorRuns
 pub mod Sizes
 pub mod Spans
