@@ -1,8 +1,9 @@
 //! The calls that change a set.
 
-ghost use Rattle.std.specs.Prelude.{◌≡◌, ◌*◌, ◌<◌, ◌≤◌, Bool, true, IsTrue};
+ghost use Rattle.std.specs.Prelude.{◌≡◌, ◌*◌, ◌<◌, ◌≤◌, Bool, true, false, IsTrue};
 ghost use Rattle.bittle_bits.specs.BitPatterns.{bit_set};
-ghost use Rattle.bittle_bits.specs.PlainSet.{with_index, without_index, with_span_changed};
+ghost use Rattle.bittle_bits.specs.PlainSet.{contains, with_index, without_index};
+ghost use Rattle.bittle_bits.specs.PlainSet.{with_span_changed};
 ghost use Rattle.bittle_bits.specs.PlainSet.{with_span, without_span, with_span_toggled};
 ghost use Rattle.bittle_bits.specs.PlainSet.{without_members};
 ghost use Rattle.bittle_bits.specs.SetOperations.{combination_of, union_of, conjunction_of};
@@ -252,10 +253,13 @@ pub trait BitsMut: Bits {
     /// row.set_bit(31);                                    // row is [0, 0x8000]
     /// ```
     #[inline]
+    #[tactic(auto, using(crate::proofs::ChangedBits::contains_after_set))]
     final fn set_bit(&mut self, index: u32)
         requires { IsTrue Self.indexable }
         ensures set { set_in Self.Shape Self.Order.Endian self.new
             ≡ with_index (set_in Self.Shape Self.Order.Endian self.old) index }
+        ensures here { 0 < (Self.big self.old).capacity
+            → contains (set_in Self.Shape Self.Order.Endian self.new) index ≡ true }
         ensures stays { Self.loan self.old ≡ Self.loan self.new }
     {
         self.set_bit_in::<Self::Order>(index);
@@ -268,10 +272,13 @@ pub trait BitsMut: Bits {
     /// row.set_bit_le(31);                                 // row is [0, 1]
     /// ```
     #[inline]
+    #[tactic(auto, using(crate::proofs::ChangedBits::contains_after_set))]
     final fn set_bit_le(&mut self, index: u32)
         requires { IsTrue Self.indexable }
         ensures set { set_in Self.Shape ⟦<LittleEndian as Endian>⟧ self.new
             ≡ with_index (set_in Self.Shape ⟦<LittleEndian as Endian>⟧ self.old) index }
+        ensures here { 0 < (Self.big self.old).capacity
+            → contains (set_in Self.Shape ⟦<LittleEndian as Endian>⟧ self.new) index ≡ true }
         ensures stays { Self.loan self.old ≡ Self.loan self.new }
     {
         self.set_bit_in::<LittleEndian>(index);
@@ -284,10 +291,13 @@ pub trait BitsMut: Bits {
     /// row.set_bit_be(32);                                 // row is [1, 0]: 32 wraps to 0
     /// ```
     #[inline]
+    #[tactic(auto, using(crate::proofs::ChangedBits::contains_after_set))]
     final fn set_bit_be(&mut self, index: u32)
         requires { IsTrue Self.indexable }
         ensures set { set_in Self.Shape ⟦<BigEndian as Endian>⟧ self.new
             ≡ with_index (set_in Self.Shape ⟦<BigEndian as Endian>⟧ self.old) index }
+        ensures here { 0 < (Self.big self.old).capacity
+            → contains (set_in Self.Shape ⟦<BigEndian as Endian>⟧ self.new) index ≡ true }
         ensures stays { Self.loan self.old ≡ Self.loan self.new }
     {
         self.set_bit_in::<BigEndian>(index);
@@ -301,10 +311,12 @@ pub trait BitsMut: Bits {
     /// row.clear_bit(31);                                  // row is [0xFFFF, 0x7FFF]
     /// ```
     #[inline]
+    #[tactic(auto, using(crate::proofs::ChangedBits::contains_after_clear))]
     final fn clear_bit(&mut self, index: u32)
         requires { IsTrue Self.indexable }
         ensures set { set_in Self.Shape Self.Order.Endian self.new
             ≡ without_index (set_in Self.Shape Self.Order.Endian self.old) index }
+        ensures here { contains (set_in Self.Shape Self.Order.Endian self.new) index ≡ false }
         ensures stays { Self.loan self.old ≡ Self.loan self.new }
     {
         self.clear_bit_in::<Self::Order>(index);
@@ -317,10 +329,13 @@ pub trait BitsMut: Bits {
     /// row.clear_bit_le(31);                               // row is [0xFFFF, 0xFFFE]
     /// ```
     #[inline]
+    #[tactic(auto, using(crate::proofs::ChangedBits::contains_after_clear))]
     final fn clear_bit_le(&mut self, index: u32)
         requires { IsTrue Self.indexable }
         ensures set { set_in Self.Shape ⟦<LittleEndian as Endian>⟧ self.new
             ≡ without_index (set_in Self.Shape ⟦<LittleEndian as Endian>⟧ self.old) index }
+        ensures here { contains (set_in Self.Shape ⟦<LittleEndian as Endian>⟧ self.new)
+            index ≡ false }
         ensures stays { Self.loan self.old ≡ Self.loan self.new }
     {
         self.clear_bit_in::<LittleEndian>(index);
@@ -333,10 +348,12 @@ pub trait BitsMut: Bits {
     /// row.clear_bit_be(31);                               // row is [0xFFFF, 0x7FFF]
     /// ```
     #[inline]
+    #[tactic(auto, using(crate::proofs::ChangedBits::contains_after_clear))]
     final fn clear_bit_be(&mut self, index: u32)
         requires { IsTrue Self.indexable }
         ensures set { set_in Self.Shape ⟦<BigEndian as Endian>⟧ self.new
             ≡ without_index (set_in Self.Shape ⟦<BigEndian as Endian>⟧ self.old) index }
+        ensures here { contains (set_in Self.Shape ⟦<BigEndian as Endian>⟧ self.new) index ≡ false }
         ensures stays { Self.loan self.old ≡ Self.loan self.new }
     {
         self.clear_bit_in::<BigEndian>(index);

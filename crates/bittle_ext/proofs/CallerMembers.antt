@@ -2,8 +2,8 @@
 use Rattle.std.proofs.Common.{◌≡◌, ◌≢◌, ◌==◌, ◌&&◌, ◌||◌, ℕ, ◌+◌, ◌-◌, ◌%◌, ◌<◌, ◌≤◌, Bool, true}
 use Rattle.std.proofs.Common.{false, not, cond, nat_lt, inl, inr, refl, sym, ap, ◌∙◌, arith}
 use Rattle.std.proofs.Math.Bool.{and-false, or-true}
-use Rattle.std.proofs.lemmas.Bool.{and_parts, cases_Bool, eq-eqb, ne_eqb, ltb-true, not-false}
-use Rattle.std.proofs.lemmas.Bool.{not-true}
+use Rattle.std.proofs.lemmas.Bool.{and_parts, cases_Bool, cases_lt, eq-eqb, ne_eqb, ltb-true}
+use Rattle.std.proofs.lemmas.Bool.{not-false, not-true}
 use Rattle.bittle.proofs.CallerChanges.{contains_after_clear, contains_after_set}
 use Rattle.bittle.proofs.CallerChanges.{contains_without_other, contains_with_other, size_inserted}
 use Rattle.bittle.proofs.CallerChanges.{size_with, size_without}
@@ -27,6 +27,14 @@ unfolding lacks
 unset_where_found s i found =
     let parts = and_parts (nat_lt i s.capacity) (not (s.has i)) found in
     contains_within s i (ltb-true i s.capacity parts.0) ∙ not-true (s.has i) parts.1
+
+-- an index below the result of `bits_capacity` is below the capacity, even if the shape does not
+-- fit
+pub index_below : (i r c : ℕ) → (c < 4294967295 → r ≡ c) → r < 4294967296 → i < r → i < c
+index_below i r c is bits below = elim (cases_lt c 4294967295) [
+  | inl l ↦ omega (arith, is l, below)
+  | inr g ↦ omega (arith, g, below, bits)
+]
 
 -- the set bits and the unset bits are together as many as the capacity
 pub size_unset : (s : PlainSet) → size (complement s) ≡ s.capacity - size s
@@ -59,6 +67,14 @@ pub unset_after_toggle : (s t : PlainSet) (i : ℕ) → t ≡ with_index_toggled
     contains s i ≡ true → contains t i ≡ false
 unset_after_toggle s t i is set =
     contains_after_clear s t i (is ∙ ap (λ b. with_index_assigned s i (not b)) set)
+
+-- an index that was flipped is a member exactly if it was none before
+pub contains_after_toggle : (s t : PlainSet) (i : ℕ) → t ≡ with_index_toggled s i →
+    0 < s.capacity → contains t i ≡ not (contains s i)
+contains_after_toggle s t i is some = elim (cases_Bool (contains s i)) [
+  | inl set ↦ unset_after_toggle s t i is set ∙ sym (ap not set)
+  | inr unset ↦ set_after_toggle s t i is some unset ∙ sym (ap not unset)
+]
 
 -- after an index was set, a set has at most one member more
 pub size_after_set : (s t : PlainSet) (i : ℕ) → t ≡ with_index s i → 0 < s.capacity →

@@ -65,6 +65,14 @@ size_cut c t ends =
       | inr g ↦ count_within c t.capacity (has_below c t) t.has g same
     ]
 
+-- a set that is cut off at its capacity or past it keeps its members
+pub size_uncut : (c : ℕ) (t : PlainSet) → Ends t → t.capacity ≤ c →
+    size (members_to c t) ≡ size t
+unfolding has_below
+size_uncut c t ends room =
+    count-same c (has_below c t) t.has (λ k l. ap (λ b. b && t.has k) (lt-ltb k c l))
+    ∙ count_past c t.capacity t.has room ends
+
 -- a shift down drops members, and adds none
 pub size_shifted_down : (s : PlainSet) (by : ℕ) → size (shifted_down s by) ≤ size s
 size_shifted_down s by = elim (cases_lt s.capacity by) [

@@ -151,6 +151,9 @@ pub trait BitsCombineExt: BitsMut {
             ≡ (set_in B.Shape B.Order.Endian other.now).has i }
         ensures at_most { size (set_in Self.Shape Self.Order.Endian self.new)
             ≤ size (set_in B.Shape B.Order.Endian other.now) }
+        ensures count { (B.big other.now).capacity ≤ (Self.big self.old).capacity
+            → size (set_in Self.Shape Self.Order.Endian self.new)
+            ≡ size (set_in B.Shape B.Order.Endian other.now) }
         ensures stays { Self.loan self.old ≡ Self.loan self.new }
     {
         combine_with::<Self, B, Self::Order, B::Order, Replacement>(self, other);
@@ -177,6 +180,9 @@ pub trait BitsCombineExt: BitsMut {
             ≡ (set_in B.Shape B.Order.Endian other.now).has i }
         ensures at_most { size (set_in Self.Shape Self.Order.Endian result)
             ≤ size (set_in B.Shape B.Order.Endian other.now) }
+        ensures count { (B.big other.now).capacity ≤ Self.type_capacity
+            → size (set_in Self.Shape Self.Order.Endian result)
+            ≡ size (set_in B.Shape B.Order.Endian other.now) }
     {
         let mut set = Self::zeros();
         set.copy_from(other);
@@ -199,6 +205,7 @@ pub trait BitsCombineExt: BitsMut {
             ≡ full_set (Self.big self.old).capacity }
         ensures in_each_order { (mirrored : Bool) → set_mirrored Self.Shape mirrored self.new
             ≡ full_set (Self.big self.old).capacity }
+        ensures count { size (Self.big self.new) ≡ (Self.big self.old).capacity }
         ensures stays { Self.loan self.old ≡ Self.loan self.new }
     {
         let capacity = self.bits_capacity();

@@ -88,13 +88,16 @@ pub trait BitsIndexMutExt: BitsMut + Sized {
         ensures set { let before = set_in Self.Shape Self.Order.Endian self.old in
             set_in Self.Shape Self.Order.Endian self.new
             ≡ cond result (with_index before index) before }
+        ensures has { IsTrue result
+            → (set_in Self.Shape Self.Order.Endian self.new).has index ≡ true }
         ensures stays { Self.loan self.old ≡ Self.loan self.new }
     {
-        let within = index < self.bits_capacity();
-        if within {
+        if index < self.bits_capacity() {
             self.set_bit_in::<Self::Order>(index);
+            true
+        } else {
+            false
         }
-        within
     }
 
     /// Clears the bit at `index` and returns `true`. If `index` is at or past the capacity, as
@@ -112,13 +115,16 @@ pub trait BitsIndexMutExt: BitsMut + Sized {
         ensures set { let before = set_in Self.Shape Self.Order.Endian self.old in
             set_in Self.Shape Self.Order.Endian self.new
             ≡ cond result (without_index before index) before }
+        ensures lacks { IsTrue result
+            → (set_in Self.Shape Self.Order.Endian self.new).has index ≡ false }
         ensures stays { Self.loan self.old ≡ Self.loan self.new }
     {
-        let within = index < self.bits_capacity();
-        if within {
+        if index < self.bits_capacity() {
             self.clear_bit_in::<Self::Order>(index);
+            true
+        } else {
+            false
         }
-        within
     }
 
     /// Sets the bit at `index` and returns whether it was unset. If `index` is at or past the

@@ -1,7 +1,7 @@
 //! Everyday calls that change a set.
 
 ghost use Rattle.std.specs.Prelude.{◌≡◌, ◌+◌, ◌-◌, ◌<◌, ◌≤◌, ℕ, Bool, List, cond, length, not};
-ghost use Rattle.std.specs.Prelude.{IsTrue};
+ghost use Rattle.std.specs.Prelude.{IsTrue, true, false};
 ghost use Rattle.std.specs.Prelude.{MatchOption};
 ghost use Rattle.std.specs.Iterator.{Drains, IsFinite};
 ghost use Rattle.std.specs.Iterator.Runs.{WholeRun};
@@ -45,12 +45,15 @@ pub trait BitsMutExt: BitsMut + Sized {
     /// row.insert(33);                                     // true: 33 wraps to 1, row is [2, 1]
     /// ```
     #[inline]
+    #[tactic(auto, using(bittle::proofs::CallerChanges::contains_after_set))]
     final fn insert(&mut self, index: u32) -> bool
         requires { IsTrue Self.indexable }
         ensures was_unset { result
             ≡ not (contains (set_in Self.Shape Self.Order.Endian self.old) index) }
         ensures set { set_in Self.Shape Self.Order.Endian self.new
             ≡ with_index (set_in Self.Shape Self.Order.Endian self.old) index }
+        ensures here { 0 < (Self.big self.old).capacity
+            → contains (set_in Self.Shape Self.Order.Endian self.new) index ≡ true }
         ensures count { 0 < (Self.big self.old).capacity
             → size (set_in Self.Shape Self.Order.Endian self.new)
             ≡ size (set_in Self.Shape Self.Order.Endian self.old) + cond result 1 0 }
@@ -76,11 +79,13 @@ pub trait BitsMutExt: BitsMut + Sized {
     /// row.remove(16);                                     // false: it was unset
     /// ```
     #[inline]
+    #[tactic(auto, using(bittle::proofs::CallerChanges::contains_after_clear))]
     final fn remove(&mut self, index: u32) -> bool
         requires { IsTrue Self.indexable }
         ensures was_set { result ≡ contains (set_in Self.Shape Self.Order.Endian self.old) index }
         ensures set { set_in Self.Shape Self.Order.Endian self.new
             ≡ without_index (set_in Self.Shape Self.Order.Endian self.old) index }
+        ensures here { contains (set_in Self.Shape Self.Order.Endian self.new) index ≡ false }
         ensures count { 0 < (Self.big self.old).capacity
             → size (set_in Self.Shape Self.Order.Endian self.old)
             ≡ size (set_in Self.Shape Self.Order.Endian self.new) + cond result 1 0 }
@@ -136,6 +141,8 @@ pub trait BitsMutExt: BitsMut + Sized {
         ensures was_set { result ≡ contains (set_in Self.Shape Self.Order.Endian self.old) index }
         ensures set { set_in Self.Shape Self.Order.Endian self.new
             ≡ with_index_assigned (set_in Self.Shape Self.Order.Endian self.old) index value }
+        ensures here { 0 < (Self.big self.old).capacity
+            → contains (set_in Self.Shape Self.Order.Endian self.new) index ≡ value }
         ensures count { 0 < (Self.big self.old).capacity
             → size (set_in Self.Shape Self.Order.Endian self.new) + cond result 1 0
             ≡ size (set_in Self.Shape Self.Order.Endian self.old) + cond value 1 0 }
@@ -158,10 +165,14 @@ pub trait BitsMutExt: BitsMut + Sized {
     /// row.toggle(9);                                      // row is [0, 2]
     /// ```
     #[inline]
+    #[tactic(auto, using(crate::proofs::CallerMembers::contains_after_toggle))]
     final fn toggle(&mut self, index: u32)
         requires { IsTrue Self.indexable }
         ensures set { set_in Self.Shape Self.Order.Endian self.new
             ≡ with_index_toggled (set_in Self.Shape Self.Order.Endian self.old) index }
+        ensures here { let before = set_in Self.Shape Self.Order.Endian self.old in
+            0 < before.capacity → contains (set_in Self.Shape Self.Order.Endian self.new) index
+            ≡ not (contains before index) }
         ensures stays { Self.loan self.old ≡ Self.loan self.new }
     {
         if one_bit::has_bits(self) {

@@ -9,7 +9,9 @@ ghost use Rattle.bittle_ext.specs.Rotations.{rotated_down, rotated_up, shifted_d
 ghost use Rattle.bittle.specs.PlainSet.{complement, contains, empty_set, members_below, size};
 ghost use Rattle.bittle.specs.PlainSet.{with_index};
 ghost use Rattle.bittle.specs.PlainSet.{with_span, without_span, with_span_toggled};
+ghost use Rattle.bittle.specs.Searches.{NoneIn};
 ghost use Rattle.bittle.specs.Values.{set_in, set_mirrored};
+ghost use Rattle.bittle_ext.specs.RangeMembers.{HasAllIn};
 
 use crate::bits_mut_ext::BitsMutExt;
 use crate::bits_span_mut_ext::BitsSpanMutExt;
@@ -36,6 +38,7 @@ pub trait BitsOwnedExt: BitsOwned {
             ≡ complement (set_in Self.Shape Self.Order.Endian self) }
         ensures in_each_order { (mirrored : Bool) → set_mirrored Self.Shape mirrored result
             ≡ complement (set_mirrored Self.Shape mirrored self) }
+        ensures count { size (Self.big result) + size (Self.big self) ≡ (Self.big self).capacity }
     {
         Self::ones().difference(self)
     }
@@ -59,6 +62,7 @@ pub trait BitsOwnedExt: BitsOwned {
         ensures count { let before = set_in Self.Shape Self.Order.Endian self in
             size (set_in Self.Shape Self.Order.Endian result)
             ≡ size before - (members_below before to - members_below before from) + (to - from) }
+        ensures all { HasAllIn (set_in Self.Shape Self.Order.Endian result) from to }
     {
         let mut set = self;
         set.set_range_in::<Self::Order>(from, to);
@@ -84,6 +88,7 @@ pub trait BitsOwnedExt: BitsOwned {
         ensures count { let before = set_in Self.Shape Self.Order.Endian self in
             size (set_in Self.Shape Self.Order.Endian result)
             ≡ size before - (members_below before to - members_below before from) }
+        ensures none { NoneIn (set_in Self.Shape Self.Order.Endian result) from to }
     {
         let mut set = self;
         set.clear_range_in::<Self::Order>(from, to);

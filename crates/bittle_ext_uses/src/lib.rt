@@ -4,6 +4,7 @@
 #![tactic(auto)]
 
 pub mod any_changes;
+pub mod bits_after;
 pub mod blocks;
 pub mod chains;
 pub mod checked_indexes;

@@ -14,3 +14,8 @@ pub returns-clause-each : goal.returns-clause-each
 returns-clause-each g c i below =
     c.copy_from.ensures.each i
     (omega (arith, below, g.met.Self.FixedCapacity.one_capacity c.zeros-set.result))
+
+pub returns-clause-count : goal.returns-clause-count
+returns-clause-count g c room =
+    c.copy_from.ensures.count
+    (omega (arith, room, g.met.Self.FixedCapacity.one_capacity c.zeros-set.result))

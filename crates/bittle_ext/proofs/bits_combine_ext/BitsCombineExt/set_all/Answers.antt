@@ -1,5 +1,7 @@
-use Rattle.std.proofs.Common.{◌∙◌}
-use Rattle.bittle.specs.PlainSet.{with_span}
+use Rattle.std.proofs.Common.{ap, ◌∙◌}
+use Rattle.std.proofs.lemmas.Bool.{lt-ltb}
+use Rattle.bittle.specs.PlainSet.{full_set, size, with_span}
+use Rattle.bittle.proofs.CallerSets.{size_whole}
 use Rattle.bittle_bits.proofs.PlainSets.{full_set_in_each_order}
 use Rattle.bittle_ext.proofs.GrownSets.{all_set}
 use Rattle.bittle_ext.proofs.bits_combine_ext.BitsCombineExt.set_all.Goals as goal
@@ -20,3 +22,8 @@ returns-clause-in_each_order g c m =
 
 pub returns-clause-in_own_order : goal.returns-clause-in_own_order
 returns-clause-in_own_order g c = returns-clause-in_each_order g c _
+
+pub returns-clause-count : goal.returns-clause-count
+returns-clause-count g c =
+    let n = (g.Self.Shape.big c.args.self.now).capacity in
+    ap size (returns-clause-set g c) ∙ size_whole (full_set n) (λ k l. lt-ltb k n l)

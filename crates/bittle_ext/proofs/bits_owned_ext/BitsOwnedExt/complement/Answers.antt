@@ -1,7 +1,9 @@
-use Rattle.std.proofs.Common.{false, ap, ◌∙◌}
+use Rattle.std.proofs.Common.{◌+◌, false, ap, ◌∙◌}
+use Rattle.bittle.specs.PlainSet.{size}
 use Rattle.bittle.specs.SetOperations.{combination_of, first_alone}
 use Rattle.bittle.specs.Values.{set_mirrored}
 use Rattle.bittle.proofs.CallerSets.{full_without}
+use Rattle.bittle_bits.proofs.Sizes.{size-complement}
 use Rattle.bittle_ext.proofs.bits_owned_ext.BitsOwnedExt.complement.Goals as goal
 
 pub returns-clause-in_each_order : goal.returns-clause-in_each_order
@@ -16,3 +18,8 @@ returns-clause-value g c = returns-clause-in_each_order g c false
 
 pub returns-clause-in_own_order : goal.returns-clause-in_own_order
 returns-clause-in_own_order g c = returns-clause-in_each_order g c _
+
+pub returns-clause-count : goal.returns-clause-count
+returns-clause-count g c =
+    let old = g.Self.Shape.big c.args.self in
+    ap (λ s. size s + size old) (returns-clause-value g c) ∙ size-complement old
