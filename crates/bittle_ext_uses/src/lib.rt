@@ -36,6 +36,7 @@ pub mod shape_changes;
 pub mod shots;
 pub mod sizes;
 pub mod spans;
+pub mod std_counts;
 pub mod texts;
 pub mod views;
 pub mod word_changes;

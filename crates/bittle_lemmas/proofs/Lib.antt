@@ -5,4 +5,5 @@ pub mod IncludedPairs
 pub mod ListedNumbers
 pub mod OutsideBoth
 pub mod SetSpans
+pub mod StdCounts
 pub mod TestedRanges
