@@ -111,3 +111,7 @@ count-others (suc c) s = elim (cases_Bool (s c)) [
   | inr f ↦
       rw f (omega (arith, count-others c s))
 ]
+
+-- each number below c passes the test that is always true
+pub count-always : (c : ℕ) → count_below c (λ _. true) ≡ c
+count-always c = omega (arith, count-others c (λ _. false), count-never c)

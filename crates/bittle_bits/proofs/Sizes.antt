@@ -1,9 +1,11 @@
 -- How many members a set has.
-use Rattle.std.proofs.Common.{◌≡◌, ℕ, ◌+◌, ◌*◌, ◌<◌, ◌≤◌, Bool, not, ◌&&◌, sym, ap, ◌∙◌, arith}
+use Rattle.std.proofs.Common.{◌≡◌, ℕ, ◌+◌, ◌*◌, ◌<◌, ◌≤◌, Bool, true, not, ◌&&◌, nat_lt, sym, ap}
+use Rattle.std.proofs.Common.{◌∙◌, arith}
 use Rattle.std.proofs.lemmas.Bool.{lt-ltb}
 use Rattle.bittle_bits.specs.Orders.{read_in}
-use Rattle.bittle_bits.specs.PlainSet.{PlainSet, size, lacks, complement}
+use Rattle.bittle_bits.specs.PlainSet.{PlainSet, size, lacks, complement, empty_set, full_set}
 use Rattle.bittle_bits.proofs.Counts.{count-same, count-le, count-placed, count-others}
+use Rattle.bittle_bits.proofs.Counts.{count-always, count-never}
 
 -- the members and the other numbers below the capacity are together as many as the capacity
 pub size-complement : (s : PlainSet) → size (complement s) + size s ≡ s.capacity
@@ -31,3 +33,13 @@ size-le s = count-le s.capacity s.has
 -- a number that is the size is at most the capacity
 pub size-most : (s : PlainSet) (n : ℕ) → n ≡ size s → n ≤ s.capacity
 size-most s n e = omega (arith, size-le s)
+
+-- a set without members has size 0
+pub size_emptied : (c : ℕ) (t : PlainSet) → t ≡ empty_set c → size t ≡ 0
+size_emptied c t is = ap size is ∙ count-never c
+
+-- a set with each number below its capacity has that size
+pub size_filled : (c : ℕ) (t : PlainSet) → t ≡ full_set c → size t ≡ c
+size_filled c t is = ap size is
+    ∙ count-same c (λ k. nat_lt k c) (λ k. true) (λ k l. lt-ltb k c l)
+    ∙ count-always c

@@ -5,7 +5,7 @@ ghost use Rattle.bittle_bits.specs.BitPatterns.{bit_set};
 ghost use Rattle.bittle_bits.specs.PlainSet.{contains, with_index, without_index};
 ghost use Rattle.bittle_bits.specs.PlainSet.{with_span_changed};
 ghost use Rattle.bittle_bits.specs.PlainSet.{with_span, without_span, with_span_toggled};
-ghost use Rattle.bittle_bits.specs.PlainSet.{without_members};
+ghost use Rattle.bittle_bits.specs.PlainSet.{size, without_members};
 ghost use Rattle.bittle_bits.specs.SetOperations.{combination_of, union_of, conjunction_of};
 ghost use Rattle.bittle_bits.specs.SetOperations.{difference_of, symmetric_difference_of};
 ghost use Rattle.bittle_bits.specs.Values.{set_in, set_mirrored, ShapeFits};
@@ -66,6 +66,7 @@ pub trait BitsMut: Bits {
             ≡ without_members (set_in Self.Shape Self.Order.Endian self.old) }
         ensures in_each_order { (mirrored : Bool) → set_mirrored Self.Shape mirrored self.new
             ≡ without_members (set_mirrored Self.Shape mirrored self.old) }
+        ensures count { size (Self.big self.new) ≡ 0 }
         ensures stays { Self.loan self.old ≡ Self.loan self.new };
 
     /// Changes each bit with an index in `from..to` by the operation `O`: `Union` sets these bits,

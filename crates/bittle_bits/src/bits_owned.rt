@@ -1,8 +1,8 @@
 //! The calls on sets that own their bits.
 
-ghost use Rattle.std.specs.Prelude.{◌≡◌, ℕ, ◌*◌, ◌<◌, Bool, IsTrue};
+ghost use Rattle.std.specs.Prelude.{◌≡◌, ℕ, ◌*◌, ◌<◌, Bool, true, false, IsTrue};
 ghost use Rattle.bittle_bits.specs.PlainSet.{empty_set, full_set, with_index, without_index};
-ghost use Rattle.bittle_bits.specs.PlainSet.{ascending, complement};
+ghost use Rattle.bittle_bits.specs.PlainSet.{ascending, complement, contains, size};
 ghost use Rattle.bittle_bits.specs.SetOperations.{union_of, conjunction_of, difference_of};
 ghost use Rattle.bittle_bits.specs.SetOperations.{symmetric_difference_of};
 ghost use Rattle.bittle_bits.specs.Shapes.{Fits};
@@ -46,7 +46,8 @@ pub trait BitsOwned: Copy + Eq + BitsMut + FixedCapacity {
         ensures in_own_order { set_in Self.Shape Self.Order.Endian result
             ≡ empty_set Self.type_capacity }
         ensures in_each_order { (mirrored : Bool) →
-            set_mirrored Self.Shape mirrored result ≡ empty_set Self.type_capacity };
+            set_mirrored Self.Shape mirrored result ≡ empty_set Self.type_capacity }
+        ensures count { size (Self.big result) ≡ 0 };
 
     /// Returns the set in which each bit is set. It is the same value in both orders.
     ///
@@ -62,7 +63,8 @@ pub trait BitsOwned: Copy + Eq + BitsMut + FixedCapacity {
         ensures in_own_order { set_in Self.Shape Self.Order.Endian result
             ≡ full_set Self.type_capacity }
         ensures in_each_order { (mirrored : Bool) →
-            set_mirrored Self.Shape mirrored result ≡ full_set Self.type_capacity };
+            set_mirrored Self.Shape mirrored result ≡ full_set Self.type_capacity }
+        ensures count { size (Self.big result) ≡ Self.type_capacity };
 
     /// Returns a copy of the set in which the bit at index `bit` is set. Indexes follow the bit
     /// order `E`.
@@ -91,10 +93,13 @@ pub trait BitsOwned: Copy + Eq + BitsMut + FixedCapacity {
     /// 0u8.with_bit(9);                                    // 2: 9 wraps to 1
     /// ```
     #[inline]
+    #[tactic(auto, using(crate::proofs::ChangedBits::contains_after_set))]
     final fn with_bit(self, bit: u32) -> Self
         requires { IsTrue Self.indexable }
-        ensures { set_in Self.Shape Self.Order.Endian result
+        ensures set { set_in Self.Shape Self.Order.Endian result
             ≡ with_index (set_in Self.Shape Self.Order.Endian self) bit }
+        ensures here { 0 < (Self.big self).capacity
+            → contains (set_in Self.Shape Self.Order.Endian result) bit ≡ true }
     {
         self.with_bit_in::<Self::Order>(bit)
     }
@@ -106,10 +111,13 @@ pub trait BitsOwned: Copy + Eq + BitsMut + FixedCapacity {
     /// 0u8.with_bit_le(1);                                 // 0b0100_0000
     /// ```
     #[inline]
+    #[tactic(auto, using(crate::proofs::ChangedBits::contains_after_set))]
     final fn with_bit_le(self, bit: u32) -> Self
         requires { IsTrue Self.indexable }
-        ensures { set_in Self.Shape ⟦<LittleEndian as Endian>⟧ result
+        ensures set { set_in Self.Shape ⟦<LittleEndian as Endian>⟧ result
             ≡ with_index (set_in Self.Shape ⟦<LittleEndian as Endian>⟧ self) bit }
+        ensures here { 0 < (Self.big self).capacity
+            → contains (set_in Self.Shape ⟦<LittleEndian as Endian>⟧ result) bit ≡ true }
     {
         self.with_bit_in::<LittleEndian>(bit)
     }
@@ -121,10 +129,13 @@ pub trait BitsOwned: Copy + Eq + BitsMut + FixedCapacity {
     /// 0u8.with_bit_be(1);                                 // 0b0000_0010
     /// ```
     #[inline]
+    #[tactic(auto, using(crate::proofs::ChangedBits::contains_after_set))]
     final fn with_bit_be(self, bit: u32) -> Self
         requires { IsTrue Self.indexable }
-        ensures { set_in Self.Shape ⟦<BigEndian as Endian>⟧ result
+        ensures set { set_in Self.Shape ⟦<BigEndian as Endian>⟧ result
             ≡ with_index (set_in Self.Shape ⟦<BigEndian as Endian>⟧ self) bit }
+        ensures here { 0 < (Self.big self).capacity
+            → contains (set_in Self.Shape ⟦<BigEndian as Endian>⟧ result) bit ≡ true }
     {
         self.with_bit_in::<BigEndian>(bit)
     }
@@ -157,10 +168,12 @@ pub trait BitsOwned: Copy + Eq + BitsMut + FixedCapacity {
     /// 255u8.without_bit(2);                               // 0b1111_1011
     /// ```
     #[inline]
+    #[tactic(auto, using(crate::proofs::ChangedBits::contains_after_clear))]
     final fn without_bit(self, bit: u32) -> Self
         requires { IsTrue Self.indexable }
-        ensures { set_in Self.Shape Self.Order.Endian result
+        ensures set { set_in Self.Shape Self.Order.Endian result
             ≡ without_index (set_in Self.Shape Self.Order.Endian self) bit }
+        ensures here { contains (set_in Self.Shape Self.Order.Endian result) bit ≡ false }
     {
         self.without_bit_in::<Self::Order>(bit)
     }
@@ -172,10 +185,12 @@ pub trait BitsOwned: Copy + Eq + BitsMut + FixedCapacity {
     /// 255u8.without_bit_le(2);                            // 0b1101_1111
     /// ```
     #[inline]
+    #[tactic(auto, using(crate::proofs::ChangedBits::contains_after_clear))]
     final fn without_bit_le(self, bit: u32) -> Self
         requires { IsTrue Self.indexable }
-        ensures { set_in Self.Shape ⟦<LittleEndian as Endian>⟧ result
+        ensures set { set_in Self.Shape ⟦<LittleEndian as Endian>⟧ result
             ≡ without_index (set_in Self.Shape ⟦<LittleEndian as Endian>⟧ self) bit }
+        ensures here { contains (set_in Self.Shape ⟦<LittleEndian as Endian>⟧ result) bit ≡ false }
     {
         self.without_bit_in::<LittleEndian>(bit)
     }
@@ -187,10 +202,12 @@ pub trait BitsOwned: Copy + Eq + BitsMut + FixedCapacity {
     /// 255u8.without_bit_be(2);                            // 0b1111_1011
     /// ```
     #[inline]
+    #[tactic(auto, using(crate::proofs::ChangedBits::contains_after_clear))]
     final fn without_bit_be(self, bit: u32) -> Self
         requires { IsTrue Self.indexable }
-        ensures { set_in Self.Shape ⟦<BigEndian as Endian>⟧ result
+        ensures set { set_in Self.Shape ⟦<BigEndian as Endian>⟧ result
             ≡ without_index (set_in Self.Shape ⟦<BigEndian as Endian>⟧ self) bit }
+        ensures here { contains (set_in Self.Shape ⟦<BigEndian as Endian>⟧ result) bit ≡ false }
     {
         self.without_bit_in::<BigEndian>(bit)
     }

@@ -32,8 +32,10 @@ pub trait BitsExt: Bits + Sized {
     #[inline]
     final fn first_one(&self) -> Option<u32>
         requires { ShapeFits Self.Shape self.now }
-        ensures { let ours = set_in Self.Shape Self.Order.Endian self.now in
+        ensures least { let ours = set_in Self.Shape Self.Order.Endian self.now in
             IsFirstIn ours 0 ours.capacity result }
+        ensures some { let ours = set_in Self.Shape Self.Order.Endian self.now in
+            MatchOption result (size ours ≡ 0) (λ _. 0 < size ours) }
     {
         first_from::<Self, Self::Order, Ones>(self, 0)
     }
@@ -47,8 +49,10 @@ pub trait BitsExt: Bits + Sized {
     #[inline]
     final fn first_zero(&self) -> Option<u32>
         requires { ShapeFits Self.Shape self.now }
-        ensures { let ours = set_in Self.Shape Self.Order.Endian self.now in
+        ensures least { let ours = set_in Self.Shape Self.Order.Endian self.now in
             IsFirstIn (complement ours) 0 ours.capacity result }
+        ensures some { let ours = set_in Self.Shape Self.Order.Endian self.now in
+            MatchOption result (size ours ≡ ours.capacity) (λ _. size ours < ours.capacity) }
     {
         first_from::<Self, Self::Order, Zeros>(self, 0)
     }
@@ -62,8 +66,10 @@ pub trait BitsExt: Bits + Sized {
     #[inline]
     final fn last_one(&self) -> Option<u32>
         requires { ShapeFits Self.Shape self.now }
-        ensures { let ours = set_in Self.Shape Self.Order.Endian self.now in
+        ensures greatest { let ours = set_in Self.Shape Self.Order.Endian self.now in
             IsLastIn ours 0 ours.capacity result }
+        ensures some { let ours = set_in Self.Shape Self.Order.Endian self.now in
+            MatchOption result (size ours ≡ 0) (λ _. 0 < size ours) }
     {
         last_of::<Self, Self::Order, Ones>(self)
     }
@@ -77,8 +83,10 @@ pub trait BitsExt: Bits + Sized {
     #[inline]
     final fn last_zero(&self) -> Option<u32>
         requires { ShapeFits Self.Shape self.now }
-        ensures { let ours = set_in Self.Shape Self.Order.Endian self.now in
+        ensures greatest { let ours = set_in Self.Shape Self.Order.Endian self.now in
             IsLastIn (complement ours) 0 ours.capacity result }
+        ensures some { let ours = set_in Self.Shape Self.Order.Endian self.now in
+            MatchOption result (size ours ≡ ours.capacity) (λ _. size ours < ours.capacity) }
     {
         last_of::<Self, Self::Order, Zeros>(self)
     }
@@ -286,6 +294,10 @@ pub trait BitsExt: Bits + Sized {
         ensures at_most { result ≤ to - from }
         ensures at_most_capacity { result ≤ (Self.big self.now).capacity }
         ensures at_most_all { result ≤ size (set_in Self.Shape Self.Order.Endian self.now) }
+        ensures all { HasAllIn (set_in Self.Shape Self.Order.Endian self.now) from to
+            → result ≡ to - from }
+        ensures none { NoneIn (set_in Self.Shape Self.Order.Endian self.now) from to
+            → result ≡ 0 }
     {
         self.count_ones_in_span(from..to)
     }

@@ -1,8 +1,7 @@
 //! Everyday calls that change a set.
 
 ghost use Rattle.std.specs.Prelude.{◌≡◌, ◌+◌, ◌-◌, ◌<◌, ◌≤◌, ℕ, Bool, List, cond, length, not};
-ghost use Rattle.std.specs.Prelude.{IsTrue, true, false};
-ghost use Rattle.std.specs.Prelude.{MatchOption};
+ghost use Rattle.std.specs.Prelude.{IsTrue, true, false, IfSome, MatchBool, MatchOption};
 ghost use Rattle.std.specs.Iterator.{Drains, IsFinite};
 ghost use Rattle.std.specs.Iterator.Runs.{WholeRun};
 ghost use Rattle.std.specs.List.{fold};
@@ -205,6 +204,9 @@ pub trait BitsMutExt: BitsMut + Sized {
             size (set_in Self.Shape Self.Order.Endian self.new)
             ≡ size before - (members_below before to - members_below before from)
             + cond value (to - from) 0 }
+        ensures each { MatchBool value
+            (HasAllIn (set_in Self.Shape Self.Order.Endian self.new) from to)
+            (NoneIn (set_in Self.Shape Self.Order.Endian self.new) from to) }
         ensures stays { Self.loan self.old ≡ Self.loan self.new }
     {
         if value {
@@ -261,6 +263,8 @@ pub trait BitsMutExt: BitsMut + Sized {
             (size (set_in Self.Shape Self.Order.Endian self.old) ≡ 0)
             (λ index. size (set_in Self.Shape Self.Order.Endian self.new) + 1
             ≡ size (set_in Self.Shape Self.Order.Endian self.old)) }
+        ensures gone { IfSome result (λ index.
+            contains (set_in Self.Shape Self.Order.Endian self.new) index ≡ false) }
         ensures stays { Self.loan self.old ≡ Self.loan self.new }
     {
         let first = first_from::<Self, Self::Order, Ones>(&*self, 0)?;
@@ -291,6 +295,8 @@ pub trait BitsMutExt: BitsMut + Sized {
             (size (set_in Self.Shape Self.Order.Endian self.old) ≡ 0)
             (λ index. size (set_in Self.Shape Self.Order.Endian self.new) + 1
             ≡ size (set_in Self.Shape Self.Order.Endian self.old)) }
+        ensures gone { IfSome result (λ index.
+            contains (set_in Self.Shape Self.Order.Endian self.new) index ≡ false) }
         ensures stays { Self.loan self.old ≡ Self.loan self.new }
     {
         let last = last_of::<Self, Self::Order, Ones>(&*self)?;
@@ -321,6 +327,8 @@ pub trait BitsMutExt: BitsMut + Sized {
             (size (set_in Self.Shape Self.Order.Endian self.old) ≡ (Self.big self.old).capacity)
             (λ index. size (set_in Self.Shape Self.Order.Endian self.new)
             ≡ size (set_in Self.Shape Self.Order.Endian self.old) + 1) }
+        ensures taken { IfSome result (λ index.
+            contains (set_in Self.Shape Self.Order.Endian self.new) index ≡ true) }
         ensures stays { Self.loan self.old ≡ Self.loan self.new }
     {
         let free = first_from::<Self, Self::Order, Zeros>(&*self, 0)?;
@@ -351,6 +359,8 @@ pub trait BitsMutExt: BitsMut + Sized {
         ensures more { MatchOption result (self.new ≡ self.old)
             (λ from. size (set_in Self.Shape Self.Order.Endian self.new)
             ≡ size (set_in Self.Shape Self.Order.Endian self.old) + length) }
+        ensures taken { IfSome result (λ from.
+            HasAllIn (set_in Self.Shape Self.Order.Endian self.new) from (from + length)) }
         ensures stays { Self.loan self.old ≡ Self.loan self.new }
     {
         let from = self.first_zero_run(length)?;

@@ -143,6 +143,9 @@ pub trait BitsOwnedExt: BitsOwned {
             size (set_in Self.Shape Self.Order.Endian result)
             ≡ size before - (members_below before end - members_below before start)
             + (end - start) }
+        ensures all { HasAllIn (set_in Self.Shape Self.Order.Endian result)
+            (start_index (R.start_bound range))
+            (end_index (R.end_bound range) Self.type_capacity) }
     {
         let mut set = self;
         set.set_span(range);
@@ -174,6 +177,9 @@ pub trait BitsOwnedExt: BitsOwned {
             let end = end_index (R.end_bound range) Self.type_capacity in
             size (set_in Self.Shape Self.Order.Endian result)
             ≡ size before - (members_below before end - members_below before start) }
+        ensures none { NoneIn (set_in Self.Shape Self.Order.Endian result)
+            (start_index (R.start_bound range))
+            (end_index (R.end_bound range) Self.type_capacity) }
     {
         let mut set = self;
         set.clear_span(range);

@@ -47,6 +47,13 @@ pub trait BitsSpanExt: Bits + Sized {
             result ≤ end - start }
         ensures at_most_capacity { result ≤ (Self.big self.now).capacity }
         ensures at_most_all { result ≤ size (set_in Self.Shape Self.Order.Endian self.now) }
+        ensures all { let start = start_index (R.start_bound range) in
+            let end = end_index (R.end_bound range) (Self.big self.now).capacity in
+            HasAllIn (set_in Self.Shape Self.Order.Endian self.now) start end
+            → result ≡ end - start }
+        ensures none { let start = start_index (R.start_bound range) in
+            let end = end_index (R.end_bound range) (Self.big self.now).capacity in
+            NoneIn (set_in Self.Shape Self.Order.Endian self.now) start end → result ≡ 0 }
     {
         let (start, end) = part_of::<Self, Self::Order, R>(self, &range);
         self.count_ones_in_range_in::<Self::Order>(start, end)

@@ -1,7 +1,7 @@
 //! Changes of a range of a set, where the range is a Rust range: `2..7`, `2..=6`, `..7`, `50..`,
 //! `..`.
 
-ghost use Rattle.std.specs.Prelude.{◌≡◌, ◌+◌, ◌-◌, ◌≤◌};
+ghost use Rattle.std.specs.Prelude.{◌≡◌, ◌+◌, ◌-◌, ◌≤◌, cond, MatchBool};
 ghost use Rattle.std.specs.Range.Bound.{start_index, end_index};
 ghost use Rattle.bittle_ext.specs.Changes.{with_span_assigned};
 ghost use Rattle.bittle.specs.Searches.{NoneIn};
@@ -133,6 +133,17 @@ pub trait BitsSpanMutExt: BitsMut + Sized {
             let end = end_index (R.end_bound range) (Self.big self.old).capacity in
             set_in Self.Shape Self.Order.Endian self.new
             ≡ with_span_assigned (set_in Self.Shape Self.Order.Endian self.old) start end value }
+        ensures count { let before = set_in Self.Shape Self.Order.Endian self.old in
+            let start = start_index (R.start_bound range) in
+            let end = end_index (R.end_bound range) (Self.big self.old).capacity in
+            size (set_in Self.Shape Self.Order.Endian self.new)
+            ≡ size before - (members_below before end - members_below before start)
+            + cond value (end - start) 0 }
+        ensures each { let start = start_index (R.start_bound range) in
+            let end = end_index (R.end_bound range) (Self.big self.old).capacity in
+            MatchBool value
+            (HasAllIn (set_in Self.Shape Self.Order.Endian self.new) start end)
+            (NoneIn (set_in Self.Shape Self.Order.Endian self.new) start end) }
         ensures stays { Self.loan self.old ≡ Self.loan self.new }
     {
         let (from, to) = ends_within::<Self, R>(self, &range);

@@ -2,8 +2,7 @@ use Rattle.std.proofs.Common.{◌≡◌, ◌+◌, ◌<◌, ℕ, true, arith}
 use Rattle.bittle.specs.BitPatterns.{bit_set}
 use Rattle.bittle.specs.PlainSet.{lacks, size, with_index}
 use Rattle.bittle.proofs.CallerSets.{size_at_most}
-use Rattle.bittle_ext.proofs.CallerMembers.{full_if_none_unset, size_after_set_new}
-use Rattle.bittle_ext.proofs.CallerMembers.{unset_where_found}
+use Rattle.bittle_ext.proofs.CallerMembers.{size_after_set_new, unset_where_found}
 use Rattle.bittle_ext_uses.proofs.filled.fill.Goals as goal
 
 -- a turn fills one seat
@@ -19,13 +18,12 @@ overflow_add-filled c =
 
 pub loop-seat-smaller : goal.loop-seat-smaller
 loop-seat-smaller c =
-    let one = one_more _ _ _ c.set_bit.ensures.set c.in-Some.ensures.1 c.in-Some.ensures.2 in
+    let one = one_more _ _ _ c.set_bit.ensures.set c.in-Some.ensures.least.1
+    c.in-Some.ensures.least.2 in
     omega (arith, one, size_at_most (bit_set 64 c.set_bit.new.self))
 
 pub loop-seat-preserved : goal.loop-seat-preserved
 loop-seat-preserved c =
-    let one = one_more _ _ _ c.set_bit.ensures.set c.in-Some.ensures.1 c.in-Some.ensures.2 in
+    let one = one_more _ _ _ c.set_bit.ensures.set c.in-Some.ensures.least.1
+    c.in-Some.ensures.least.2 in
     omega (arith, one, c.loop-seat.invariant)
-
-pub returns-clause-all : goal.returns-clause-all
-returns-clause-all c = full_if_none_unset (bit_set 64 c.loop-seat.seats) c.in_default.ensures

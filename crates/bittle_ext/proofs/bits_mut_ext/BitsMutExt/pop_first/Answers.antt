@@ -1,6 +1,6 @@
 use Rattle.std.proofs.Common.{◌+◌, sym, ap, ◌∙◌, arith}
 use Rattle.bittle.specs.PlainSet.{size}
-use Rattle.bittle.proofs.CallerChanges.{size_without}
+use Rattle.bittle.proofs.CallerChanges.{contains_after_clear, size_without}
 use Rattle.bittle.proofs.CallerSets.{size_zero}
 use Rattle.bittle_ext.proofs.bits_mut_ext.BitsMutExt.pop_first.Goals as goal
 
@@ -21,3 +21,6 @@ pub returns-clause-fewer : goal.returns-clause-fewer
 returns-clause-fewer g c =
     let found = c.in_ok-first.ensures in
     ap (λ t. size t + 1) c.flip_first.ensures.set ∙ sym (size_without _ _ found.1 found.2)
+
+pub returns-clause-gone : goal.returns-clause-gone
+returns-clause-gone g c = contains_after_clear _ _ _ c.flip_first.ensures.set

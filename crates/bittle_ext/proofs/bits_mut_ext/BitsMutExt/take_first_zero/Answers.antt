@@ -2,7 +2,7 @@ use Rattle.std.proofs.Common.{◌≡◌, false, sym, ap, ◌∙◌, arith}
 use Rattle.std.proofs.lemmas.Bool.{not-true}
 use Rattle.bittle.specs.PlainSet.{PlainSet, size}
 use Rattle.bittle.specs.Values.{set_in}
-use Rattle.bittle.proofs.CallerChanges.{size_with}
+use Rattle.bittle.proofs.CallerChanges.{contains_after_set, size_with}
 use Rattle.bittle.proofs.CallerSets.{complement_within, size_zero}
 use Rattle.bittle_bits.proofs.Sizes.{size-complement}
 use Rattle.bittle_ext.proofs.bits_mut_ext.BitsMutExt.take_first_zero.Goals as goal
@@ -29,3 +29,7 @@ returns-clause-more g c =
     let unset : s.has c.in_ok-free.free ≡ false =
     not-true _ (sym (complement_within s _ found.1) ∙ found.2) in
     ap size c.flip_first.ensures.set ∙ size_with s _ found.1 unset
+
+pub returns-clause-taken : goal.returns-clause-taken
+returns-clause-taken g c = contains_after_set _ _ _ c.flip_first.ensures.set
+    (omega (arith, c.in_ok-free.ensures.1))

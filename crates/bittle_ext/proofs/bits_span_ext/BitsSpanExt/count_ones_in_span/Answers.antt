@@ -1,6 +1,7 @@
 use Rattle.std.proofs.Common.{◌∙◌, arith}
 use Rattle.bittle.specs.Values.{set_in}
 use Rattle.bittle_bits.proofs.MembersBelow.{below_between}
+use Rattle.bittle_ext.proofs.FoundSizes.{count_of_all, count_of_none}
 use Rattle.bittle_ext.proofs.RangesBelow.{count_of_part}
 use Rattle.bittle_ext.proofs.bits_span_ext.BitsSpanExt.count_ones_in_span.Goals as goal
 
@@ -14,3 +15,11 @@ returns-clause-at_most_all g c =
     let part = c.part_of-start.ensures.part in
     let few = below_between s c.part_of-start.result.1 s.capacity part.inside in
     omega (arith, few.0, c.count_ones_in_range_in.ensures.value)
+
+pub returns-clause-all : goal.returns-clause-all
+returns-clause-all g c all = returns-clause-value g c
+    ∙ count_of_all (set_in g.Self.Shape g.Self.Order.Endian c.args.self.now) _ _ all
+
+pub returns-clause-none : goal.returns-clause-none
+returns-clause-none g c none = returns-clause-value g c
+    ∙ count_of_none (set_in g.Self.Shape g.Self.Order.Endian c.args.self.now) _ _ none
