@@ -9,6 +9,7 @@ pub mod LawProofs
 pub mod Orders
 pub mod Pieces
 pub mod PlainSet
+pub mod Relations
 pub mod RowLawProofs
 pub mod Rows
 pub mod Searches
