@@ -4,21 +4,13 @@ use Rattle.std.proofs.Common.{◌≡◌, ℕ, ◌<◌, ◌≤◌, Bool, true, fa
 use Rattle.std.proofs.Common.{◌==◌, inl, inr, sym, ap, ◌∙◌, refl, arith}
 use Rattle.std.proofs.Math.Nat.{mod-eq_of_lt}
 use Rattle.std.proofs.lemmas.Bool.{cases_Bool, lt-ltb}
-use Rattle.bittle_bits.specs.PlainSet.{PlainSet, contains, with_index, has_with, without_index}
+use Rattle.bittle_bits.specs.PlainSet.{PlainSet, with_index, has_with, without_index}
 use Rattle.bittle_bits.specs.PlainSet.{has_without, complement, lacks, empty_set, full_set, size}
 use Rattle.bittle_bits.specs.Searches.{NoneIn}
 use Rattle.bittle_bits.specs.SetOperations.{combination_of, combination_has, first_alone}
-pub use Rattle.bittle_bits.proofs.PlainSets.{members-past}
+pub use Rattle.bittle_bits.proofs.PlainSets.{contains_within, members-past}
 use Rattle.bittle_bits.proofs.Counts as counts
 use Rattle.bittle_bits.proofs.Sizes as sizes
-
--- below the capacity no index wraps
-pub contains_within : (s : PlainSet) (i : ℕ) → i < s.capacity → contains s i ≡ s.has i
-unfolding contains
-contains_within s i h =
-    let some = lt-ltb 0 s.capacity (omega arith) in
-    let same = mod-eq_of_lt h in
-    rw (some, same) refl
 
 -- after an index below the capacity is put in, a set has that index and its old members
 pub with_index_within : (s : PlainSet) (i : ℕ) → i < s.capacity →

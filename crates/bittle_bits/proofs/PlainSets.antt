@@ -1,6 +1,7 @@
 -- Plain sets, and the members in an order.
 use Rattle.std.proofs.Common.{◌≡◌, ℕ, ◌*◌, ◌%◌, ◌<◌, ◌≤◌, Bool, false, not, ◌&&◌, ◌||◌, ◌==◌}
 use Rattle.std.proofs.Common.{nat_lt, refl, sym, ap, ◌∙◌, arith}
+use Rattle.std.proofs.Math.Nat.{mod-eq_of_lt}
 use Rattle.std.proofs.Math.Path.{fun_ext}
 use Rattle.std.proofs.lemmas.Bool.{lt-ltb}
 use Rattle.bittle_bits.specs.Orders.{place, read_in}
@@ -36,6 +37,14 @@ module _ (s : PlainSet) (c i : ℕ) (of : s.capacity ≡ c) (some : 0 < c) where
   -- the set without an index has its members except the index modulo the capacity
   pub without_in : without_index s i ≡ plain_set c (λ k. not (k == i % c) && s.has k)
   without_in = λ j. plain_set (of j) (has_without-in j)
+
+-- below the capacity no index wraps
+pub contains_within : (s : PlainSet) (i : ℕ) → i < s.capacity → contains s i ≡ s.has i
+unfolding contains
+contains_within s i h =
+    let some = lt-ltb 0 s.capacity (omega arith) in
+    let same = mod-eq_of_lt h in
+    rw (some, same) refl
 
 -- no index is below a capacity of zero
 module _ (s : PlainSet) (i : ℕ) (none : s.capacity ≡ 0) where

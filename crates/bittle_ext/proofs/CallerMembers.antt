@@ -21,12 +21,21 @@ pub contains_empty : (c i : ℕ) → contains (empty_set c) i ≡ false
 unfolding contains
 contains_empty c i = and-false (nat_lt 0 c)
 
+-- a number that was found unset is below the capacity, and is no member
+pub found_below : (s : PlainSet) (i : ℕ) → lacks s i ≡ true → i < s.capacity
+unfolding lacks
+found_below s i found =
+    ltb-true i s.capacity (and_parts (nat_lt i s.capacity) (not (s.has i)) found).0
+
+pub none_where_found : (s : PlainSet) (i : ℕ) → lacks s i ≡ true → s.has i ≡ false
+unfolding lacks
+none_where_found s i found =
+    not-true (s.has i) (and_parts (nat_lt i s.capacity) (not (s.has i)) found).1
+
 -- an index that a search for an unset bit returns is unset
 pub unset_where_found : (s : PlainSet) (i : ℕ) → lacks s i ≡ true → contains s i ≡ false
-unfolding lacks
 unset_where_found s i found =
-    let parts = and_parts (nat_lt i s.capacity) (not (s.has i)) found in
-    contains_within s i (ltb-true i s.capacity parts.0) ∙ not-true (s.has i) parts.1
+    contains_within s i (found_below s i found) ∙ none_where_found s i found
 
 -- an index below the result of `bits_capacity` is below the capacity, even if the shape does not
 -- fit

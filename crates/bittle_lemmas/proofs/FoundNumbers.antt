@@ -1,7 +1,7 @@
 -- Facts about the index that a search found, most often of an unset bit, in a set or a union of two.
-use Rattle.std.proofs.Common.{◌≡◌, ℕ, ◌+◌, ◌<◌, ◌≤◌, Bool, true, false, not, ◌||◌, nat_lt, Option}
+use Rattle.std.proofs.Common.{◌≡◌, ℕ, ◌+◌, ◌<◌, ◌≤◌, Bool, true, false, not, ◌||◌, Option}
 use Rattle.std.proofs.Common.{Some, None, MatchOption, inl, inr, refl, sym, ap, ◌∙◌, subst, arith}
-use Rattle.std.proofs.lemmas.Bool.{and_parts, cases_lt, ltb-true, not-false, not-true, true≢false}
+use Rattle.std.proofs.lemmas.Bool.{and_parts, cases_lt, not-false, not-true, true≢false}
 use Rattle.bittle.specs.PlainSet.{PlainSet, complement, contains, is_in_span, lacks, size}
 use Rattle.bittle.specs.Searches.{IsFirstIn, NoneIn}
 use Rattle.bittle.proofs.CallerSets.{complement_within, contains_within, size_at_most, size_full}
@@ -9,18 +9,7 @@ use Rattle.bittle.proofs.CallerSets.{size_some}
 use Rattle.bittle_ext.specs.Combined.{either_of}
 use Rattle.bittle_ext.specs.RangeMembers.{members_within}
 use Rattle.bittle_ext.specs.Runs.{IsFirstRun}
-use Rattle.bittle_ext.proofs.CallerMembers.{unset_where_found}
-
--- a number that was found unset is below the capacity, and is no member
-pub found_below : (s : PlainSet) (i : ℕ) → lacks s i ≡ true → i < s.capacity
-unfolding lacks
-found_below s i found =
-    ltb-true i s.capacity (and_parts (nat_lt i s.capacity) (not (s.has i)) found).0
-
-pub none_where_found : (s : PlainSet) (i : ℕ) → lacks s i ≡ true → s.has i ≡ false
-unfolding lacks
-none_where_found s i found =
-    not-true (s.has i) (and_parts (nat_lt i s.capacity) (not (s.has i)) found).1
+pub use Rattle.bittle_ext.proofs.CallerMembers.{found_below, none_where_found, unset_where_found}
 
 -- if a search of a range found no unset number, each number of the range is a member
 pub set_if_none_unset : (s : PlainSet) (from to k : ℕ) → NoneIn (complement s) from to →
