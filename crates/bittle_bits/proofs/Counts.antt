@@ -26,6 +26,21 @@ unfolding count_below
 count-le zero s = omega arith
 count-le (suc c) s = omega (arith, count-le c s, one_at_most (s c))
 
+one_each : (a b : Bool) → (a ≡ true → b ≡ true) → cond a 1 0 ≤ cond b 1 0
+one_each true b h = rw (h refl) (omega arith)
+one_each false b h = omega arith
+
+-- a test that passes what another passes has no lower count
+pub count-more : (c : ℕ) (s t : ℕ → Bool) → ((k : ℕ) → k < c → s k ≡ true → t k ≡ true) →
+    count_below c s ≤ count_below c t
+unfolding count_below
+count-more zero s t h = omega arith
+count-more (suc c) s t h = omega (
+  arith,
+  count-more c s t (λ k l. h k (omega (arith, l))),
+  one_each (s c) (t c) (h c (omega arith)),
+)
+
 -- the count below a + b is the count below a plus the count of the b numbers after it
 pub count-add : (a b : ℕ) (s : ℕ → Bool) →
     count_below (a + b) s ≡ count_below a s + count_below b (λ k. s (a + k))

@@ -4,8 +4,9 @@ use Rattle.std.proofs.Common.{◌∙◌, arith}
 use Rattle.std.proofs.lemmas.Bool.{lt-ltb}
 use Rattle.bittle_bits.specs.Orders.{read_in}
 use Rattle.bittle_bits.specs.PlainSet.{PlainSet, size, lacks, complement, empty_set, full_set}
-use Rattle.bittle_bits.proofs.Counts.{count-same, count-le, count-placed, count-others}
-use Rattle.bittle_bits.proofs.Counts.{count-always, count-never}
+use Rattle.bittle_bits.specs.Relations.{IsSubset}
+use Rattle.bittle_bits.proofs.Counts.{count-always, count-le, count-more, count-never, count-others}
+use Rattle.bittle_bits.proofs.Counts.{count-placed, count-same}
 
 -- the members and the other numbers below the capacity are together as many as the capacity
 pub size-complement : (s : PlainSet) → size (complement s) + size s ≡ s.capacity
@@ -43,3 +44,7 @@ pub size_filled : (c : ℕ) (t : PlainSet) → t ≡ full_set c → size t ≡ c
 size_filled c t is = ap size is
     ∙ count-same c (λ k. nat_lt k c) (λ k. true) (λ k l. lt-ltb k c l)
     ∙ count-always c
+
+-- a subset of a set of the same capacity has at most as many members
+pub size_of_part : (s t : PlainSet) → t.capacity ≡ s.capacity → IsSubset s t → size s ≤ size t
+size_of_part s t same each = rw same (count-more s.capacity s.has t.has (λ k _. each k))

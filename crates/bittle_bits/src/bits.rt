@@ -137,9 +137,12 @@ pub trait Bits: Drop + ReadWords {
     /// 0b0010u8.test_bit(9);                               // true: 9 wraps to 1
     /// ```
     #[inline]
+    #[tactic(auto, using(crate::proofs::PlainSets::contains_within))]
     final fn test_bit(&self, index: u32) -> bool
         requires { IsTrue Self.indexable }
-        ensures { result ≡ contains (set_in Self.Shape Self.Order.Endian self.now) index }
+        ensures value { result ≡ contains (set_in Self.Shape Self.Order.Endian self.now) index }
+        ensures has { index < (Self.big self.now).capacity
+            → result ≡ (set_in Self.Shape Self.Order.Endian self.now).has index }
     {
         self.test_bit_in::<Self::Order>(index)
     }
@@ -150,9 +153,13 @@ pub trait Bits: Drop + ReadWords {
     /// 0b1000_0000u8.test_bit_le(0);                       // true
     /// ```
     #[inline]
+    #[tactic(auto, using(crate::proofs::PlainSets::contains_within))]
     final fn test_bit_le(&self, index: u32) -> bool
         requires { IsTrue Self.indexable }
-        ensures { result ≡ contains (set_in Self.Shape ⟦<LittleEndian as Endian>⟧ self.now) index }
+        ensures value { result
+            ≡ contains (set_in Self.Shape ⟦<LittleEndian as Endian>⟧ self.now) index }
+        ensures has { index < (Self.big self.now).capacity
+            → result ≡ (set_in Self.Shape ⟦<LittleEndian as Endian>⟧ self.now).has index }
     {
         self.test_bit_in::<LittleEndian>(index)
     }
@@ -163,9 +170,13 @@ pub trait Bits: Drop + ReadWords {
     /// 0b1000_0000u8.test_bit_be(7);                       // true
     /// ```
     #[inline]
+    #[tactic(auto, using(crate::proofs::PlainSets::contains_within))]
     final fn test_bit_be(&self, index: u32) -> bool
         requires { IsTrue Self.indexable }
-        ensures { result ≡ contains (set_in Self.Shape ⟦<BigEndian as Endian>⟧ self.now) index }
+        ensures value { result
+            ≡ contains (set_in Self.Shape ⟦<BigEndian as Endian>⟧ self.now) index }
+        ensures has { index < (Self.big self.now).capacity
+            → result ≡ (set_in Self.Shape ⟦<BigEndian as Endian>⟧ self.now).has index }
     {
         self.test_bit_in::<BigEndian>(index)
     }

@@ -1,8 +1,9 @@
 //! The calls on sets that own their bits.
 
-ghost use Rattle.std.specs.Prelude.{◌≡◌, ℕ, ◌*◌, ◌<◌, Bool, true, false, IsTrue};
+ghost use Rattle.std.specs.Prelude.{◌≡◌, ℕ, ◌*◌, ◌<◌, ◌≤◌, Bool, true, false, IsTrue};
 ghost use Rattle.bittle_bits.specs.PlainSet.{empty_set, full_set, with_index, without_index};
 ghost use Rattle.bittle_bits.specs.PlainSet.{ascending, complement, contains, size};
+ghost use Rattle.bittle_bits.specs.Relations.{AreDisjoint, IsSubset};
 ghost use Rattle.bittle_bits.specs.SetOperations.{union_of, conjunction_of, difference_of};
 ghost use Rattle.bittle_bits.specs.SetOperations.{symmetric_difference_of};
 ghost use Rattle.bittle_bits.specs.Shapes.{Fits};
@@ -228,6 +229,12 @@ pub trait BitsOwned: Copy + Eq + BitsMut + FixedCapacity {
         ensures in_own_order { set_in Self.Shape Self.Order.Endian result
             ≡ union_of (set_in Self.Shape Self.Order.Endian self)
             (set_in Self.Shape Self.Order.Endian other) }
+        ensures kept { IsSubset (set_in Self.Shape Self.Order.Endian self)
+            (set_in Self.Shape Self.Order.Endian result) }
+        ensures added { IsSubset (set_in Self.Shape Self.Order.Endian other)
+            (set_in Self.Shape Self.Order.Endian result) }
+        ensures at_least { size (set_in Self.Shape Self.Order.Endian self)
+            ≤ size (set_in Self.Shape Self.Order.Endian result) }
     {
         let mut set = self;
         set.union_assign(&other);
@@ -248,6 +255,12 @@ pub trait BitsOwned: Copy + Eq + BitsMut + FixedCapacity {
         ensures in_own_order { set_in Self.Shape Self.Order.Endian result
             ≡ conjunction_of (set_in Self.Shape Self.Order.Endian self)
             (set_in Self.Shape Self.Order.Endian other) }
+        ensures subset { IsSubset (set_in Self.Shape Self.Order.Endian result)
+            (set_in Self.Shape Self.Order.Endian self) }
+        ensures within { IsSubset (set_in Self.Shape Self.Order.Endian result)
+            (set_in Self.Shape Self.Order.Endian other) }
+        ensures at_most { size (set_in Self.Shape Self.Order.Endian result)
+            ≤ size (set_in Self.Shape Self.Order.Endian self) }
     {
         let mut set = self;
         set.conjunction_assign(&other);
@@ -268,6 +281,12 @@ pub trait BitsOwned: Copy + Eq + BitsMut + FixedCapacity {
         ensures in_own_order { set_in Self.Shape Self.Order.Endian result
             ≡ difference_of (set_in Self.Shape Self.Order.Endian self)
             (set_in Self.Shape Self.Order.Endian other) }
+        ensures subset { IsSubset (set_in Self.Shape Self.Order.Endian result)
+            (set_in Self.Shape Self.Order.Endian self) }
+        ensures apart { AreDisjoint (set_in Self.Shape Self.Order.Endian result)
+            (set_in Self.Shape Self.Order.Endian other) }
+        ensures at_most { size (set_in Self.Shape Self.Order.Endian result)
+            ≤ size (set_in Self.Shape Self.Order.Endian self) }
     {
         let mut set = self;
         set.difference_assign(&other);

@@ -6,7 +6,8 @@ use Rattle.std.proofs.Math.Bool.{and-false, or-true}
 use Rattle.std.proofs.Math.Nat.{div-add-mod', mod-eq_of_lt}
 use Rattle.std.proofs.lemmas.Bool.{and_parts, cases_eq, ne_eqb, le-leb, lt-ltb}
 use Rattle.bittle.specs.PlainSet.{PlainSet, contains, is_in_span, has_changed, has_with}
-use Rattle.bittle.specs.PlainSet.{has_without, with_index, with_span, without_index, without_span}
+use Rattle.bittle.specs.PlainSet.{has_without, with_index, with_span, with_span_toggled}
+use Rattle.bittle.specs.PlainSet.{without_index, without_span}
 use Rattle.bittle_bits.proofs.Spans.{inside_span, outside_span}
 use Rattle.bittle.proofs.CallerSets.{contains_within}
 use Rattle.bittle_ext.specs.ReservedSpans.{each_from, has_span}
@@ -24,6 +25,16 @@ pub has_after_clear_span : (s t : PlainSet) (from to i : ℕ) → t ≡ without_
     from ≤ i → i < to → t.has i ≡ false
 has_after_clear_span s t from to i is low up =
     ap (λ (u : PlainSet). u.has i) is ∙ inside_span (λ _. false) s from to i low up
+
+-- after a span was toggled, each index of it is a member exactly if it was none before
+pub contains_after_toggle_span : (s t : PlainSet) (from to i : ℕ) →
+    t ≡ with_span_toggled s from to → to ≤ s.capacity → from ≤ i → i < to →
+    contains t i ≡ not (contains s i)
+contains_after_toggle_span s t from to i is within low up =
+    let below : i < s.capacity = omega (arith, up, within) in
+    ap (λ (u : PlainSet). contains u i) is
+    ∙ contains_within (with_span_toggled s from to) i below
+    ∙ inside_span not s from to i low up ∙ ap not (sym (contains_within s i below))
 
 -- after a span was set (or cleared), an index outside it is a member exactly if it was one before
 pub has_outside_set_span : (s t : PlainSet) (from to i : ℕ) → t ≡ with_span s from to →

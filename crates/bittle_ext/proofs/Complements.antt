@@ -1,10 +1,12 @@
 -- The complement of a set.
 use Rattle.std.proofs.Common.{◌≡◌, ℕ, ◌+◌, ◌≤◌, ◌==◌, false, not, inl, inr, refl, sym, ap, ◌∙◌}
-use Rattle.std.proofs.Common.{arith}
+use Rattle.std.proofs.Common.{arith, nat_lt}
+use Rattle.std.proofs.Math.Bool.{and-false}
 use Rattle.std.proofs.Math.Path.{fun_ext}
 use Rattle.std.proofs.lemmas.Bool.{cases_Bool, cases_lt, lt-ltb, le-ltb, eq-eqb, eqb-true}
 use Rattle.std.proofs.lemmas.Bool.{true≢false}
 use Rattle.bittle.specs.PlainSet.{PlainSet, complement, lacks, size, with_span_toggled}
+use Rattle.bittle.specs.Relations.{AreDisjoint}
 use Rattle.bittle_bits.proofs.PlainSets.{plain_set}
 use Rattle.bittle_bits.proofs.Sizes.{size-complement}
 use Rattle.bittle_bits.proofs.Spans.{inside_span, outside_span}
@@ -20,6 +22,11 @@ all_toggled s c is past =
       | inr g ↦ outside_span not s 0 c k (inr (omega (arith, is)))
           ∙ rw (le-ltb k s.capacity g) (past k g)
     ])
+
+-- a set has no member of its complement
+pub complement_apart : (s : PlainSet) → AreDisjoint s (complement s)
+unfolding lacks
+complement_apart s k has = rw has (and-false (nat_lt k s.capacity))
 
 -- two tests of numbers are alike if each implies the other
 tests_alike : (a b c d : ℕ) → (a ≡ b → c ≡ d) → (c ≡ d → a ≡ b) → (a == b) ≡ (c == d)

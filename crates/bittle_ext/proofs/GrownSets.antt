@@ -6,7 +6,7 @@ use Rattle.std.proofs.Math.Path.{fun_ext}
 use Rattle.std.proofs.lemmas.Bool.{and_right, cases_Bool, cases_lt, lt-ltb, le-ltb, true≢false}
 use Rattle.bittle.specs.PlainSet.{PlainSet, count_below, full_set, size, with_span}
 use Rattle.bittle.specs.SetOperations.{first_alone}
-use Rattle.bittle_bits.proofs.Counts.{count-same, count-some}
+use Rattle.bittle_bits.proofs.Counts.{count-more, count-same, count-some}
 use Rattle.bittle_bits.proofs.PlainSets.{plain_set}
 use Rattle.bittle_bits.proofs.Spans.{outside_span, inside_span}
 use Rattle.bittle_ext.specs.Between.{has_below, members_to, Differ}
@@ -50,7 +50,7 @@ module _ (f : Bool → Bool → Bool) (s t u : PlainSet) (keeps : (a b : Bool) �
   pub never_shrinks : size s ≤ size u
   never_shrinks =
       let same : u.capacity ≡ s.capacity = ap (λ v. v.capacity) is in
-      rw same (omega (arith, (all_numbers s.capacity u.has s.has).0, all_common s u keeps_first))
+      rw same (count-more s.capacity s.has u.has keeps_first)
 
   -- u has more members if it differs from s
   pub grows : Differ s u → size s < size u
@@ -72,8 +72,7 @@ module _ (f : Bool → Bool → Bool) (s t u : PlainSet) (brings : (a b : Bool) 
   pub never_grows : size u ≤ size s
   never_grows =
       let same : u.capacity ≡ s.capacity = ap (λ v. v.capacity) is in
-      let sums = (all_numbers u.capacity s.has u.has).0 in
-      rw (sym same) (omega (arith, sums, all_common u s from_first))
+      rw (sym same) (count-more u.capacity u.has s.has from_first)
 
   -- u has fewer members if it differs from s
   pub shrinks : Differ s u → size u < size s

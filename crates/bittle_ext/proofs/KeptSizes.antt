@@ -2,19 +2,20 @@
 -- member.
 use Rattle.std.proofs.Common.{◌≡◌, ℕ, zero, suc, cond, Option, Some, None, MatchOption, slice_get}
 use Rattle.std.proofs.Common.{length, subst, ◌⊎◌, ◌+◌, ◌-◌, ◌<◌, ◌≤◌, Bool, true, false, ◌&&◌, List}
-use Rattle.std.proofs.Common.{[], ◌∷◌, inl, inr, refl, sym, ap, ◌∙◌, arith, is_some, not}
-use Rattle.std.proofs.lemmas.Bool.{cases_Bool, cases_lt, le-ltb, lt-ltb, true≢false}
+use Rattle.std.proofs.Common.{[], ◌∷◌, inl, inr, max, refl, sym, ap, ◌∙◌, ◌||◌, arith, is_some, not}
+use Rattle.std.proofs.lemmas.Bool.{cases_lt, le-ltb, lt-ltb, or_left, true≢false}
 use Rattle.std.proofs.lemmas.Option.{slice_get-get_or}
 use Rattle.std.specs.List.{fold}
 use Rattle.bittle.specs.PlainSet.{PlainSet, ascending, count_below, is_in_span, members_below, size}
 use Rattle.bittle.specs.PlainSet.{complement, lacks, with_index}
 use Rattle.bittle.specs.SetOperations.{first_alone}
-use Rattle.bittle_bits.proofs.Counts.{count-add, count-never, count-same}
+use Rattle.bittle_bits.proofs.Counts.{count-add, count-more, count-never, count-same}
 use Rattle.bittle_bits.proofs.Sizes.{size-le}
 use Rattle.bittle_bits.proofs.Spans.{is_in_span-outside}
 use Rattle.bittle.proofs.CallerChanges.{size_inserted}
 use Rattle.bittle.proofs.CallerLists.{ascending_member}
 use Rattle.bittle_ext.specs.Between.{has_below, members_to}
+use Rattle.bittle_ext.specs.Combined.{either_of}
 use Rattle.bittle_ext.specs.RangeMembers.{members_within}
 use Rattle.bittle_ext.specs.Rotations.{has_shifted_down, has_shifted_up, shifted_down, shifted_up}
 use Rattle.bittle_ext.specs.SetRelations.{IsFirstAlone, IsSubset}
@@ -184,6 +185,18 @@ size_view_alone s t u is = omega (arith, ap size is, (all_numbers s.capacity s.h
 pub size_view_common : (s t u : PlainSet) → u ≡ decided_of_first ◌&&◌ s t → size u ≤ size s
 size_view_common s t u is = omega (arith, ap size is, (all_numbers s.capacity s.has t.has).0)
 
+-- a set has at most as many members as its union with another
+pub size_view_either : (s t u : PlainSet) → u ≡ either_of s t → size s ≤ size u
+size_view_either s t u is =
+    let either : ℕ → Bool = λ k. s.has k || t.has k in
+    omega (
+      arith,
+      ap size is,
+      count-more s.capacity s.has either (λ k _ has. or_left (s.has k) (t.has k) has),
+      count_within s.capacity (max s.capacity t.capacity) either either (omega arith)
+          (λ k b. refl),
+    )
+
 -- fewer members are below a member than there are in all
 pub below_member : (s : PlainSet) (i : ℕ) → Ends s → s.has i ≡ true → members_below s i < size s
 below_member s i ends has = elim (cases_lt i s.capacity) [
@@ -208,27 +221,20 @@ none_alone s t (Some i) none e is first = absurd (true≢false (e ∙ ap not is)
 
 -- a subset has at most as many members
 pub size_subset : (s t : PlainSet) → Ends t → IsSubset s t → size s ≤ size t
-size_subset s t ends each = elim (cases_lt t.capacity s.capacity) [
-  | inl l ↦ omega (
-    arith,
-    shared,
-    (all_numbers s.capacity s.has t.has).2,
-    count_past s.capacity t.capacity t.has (omega (arith, l)) ends,
-  )
-  | inr g ↦ omega (
-    arith,
-    shared,
-    (all_numbers s.capacity s.has t.has).2,
-    count_within s.capacity t.capacity t.has t.has g (λ k b. refl),
-  )
-]
-  where
-    shared : size s ≡ count_below s.capacity (λ k. s.has k && t.has k)
-    shared = count-same s.capacity s.has (λ k. s.has k && t.has k)
-        (λ k below. elim (cases_Bool (s.has k)) [
-          | inl has ↦ has ∙ sym (ap (λ b. b && t.has k) has ∙ each k has)
-          | inr lacks ↦ lacks ∙ sym (ap (λ b. b && t.has k) lacks)
-        ])
+size_subset s t ends each =
+    let part = count-more s.capacity s.has t.has (λ k _. each k) in
+    elim (cases_lt t.capacity s.capacity) [
+      | inl l ↦ omega (
+        arith,
+        part,
+        count_past s.capacity t.capacity t.has (omega (arith, l)) ends,
+      )
+      | inr g ↦ omega (
+        arith,
+        part,
+        count_within s.capacity t.capacity t.has t.has g (λ k b. refl),
+      )
+    ]
 
 -- what item n of the increasing list says
 pub select_found : (s : PlainSet) (n : ℕ) (r : Option ℕ) → r ≡ slice_get (ascending s) n →

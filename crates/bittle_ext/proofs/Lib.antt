@@ -12,6 +12,7 @@ mod CopiedRanges
 mod DigitTexts
 mod EdgeRuns
 mod EdgeWords
+pub mod FoundBits
 pub mod FoundSizes
 mod GrownSets
 pub mod KeptMembers

@@ -14,6 +14,7 @@ use Rattle.bittle.proofs.CallerSets.{complement_within}
 use Rattle.bittle_bits.proofs.AscendingLists.{ascending_from-length, ascending_from-zero}
 use Rattle.bittle_bits.proofs.AscendingLists.{ascending-at, ascending-yes, ascending-no}
 use Rattle.bittle_bits.proofs.Counts.{count-add, count-same, count-never, count-others}
+use Rattle.bittle_bits.proofs.MembersBelow.{below_between}
 
 -- no member lies below 0
 pub below_zero : (s : PlainSet) → members_below s 0 ≡ 0
@@ -72,6 +73,25 @@ below_others s n h =
     count-same n (complement s).has (λ k. not (s.has k))
     (λ k l. complement_within s k (omega arith)) in
     omega (arith, others, count-others n s.has)
+
+-- in a range, the members and the other numbers are together as many as its length
+pub range_others : (s : PlainSet) (from to n : ℕ) → from ≤ to → to ≤ s.capacity →
+    n ≡ members_below (complement s) to - members_below (complement s) from →
+    n + (members_below s to - members_below s from) ≡ to - from
+range_others s from to n ordered within is =
+    let ours = below_between s from to ordered in
+    let theirs = below_between (complement s) from to ordered in
+    omega (
+      arith,
+      is,
+      ours.0,
+      ours.1,
+      theirs.0,
+      theirs.1,
+      below_others s from (omega (arith, ordered, within)),
+      below_others s to within,
+      ordered,
+    )
 
 -- the last word of a capacity of whole words ends at the capacity
 pub end_of_words : (w c bits wide k : ℕ) → 0 < w → (words : ℕ) × (c ≡ words * w) → bits ≡ c →

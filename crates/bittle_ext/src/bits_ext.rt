@@ -1,10 +1,10 @@
 //! Everyday calls that read a set.
 
 ghost use Rattle.std.specs.Prelude.{◌≡◌, ◌+◌, ◌-◌, ◌<◌, ◌≤◌, IfSome, MatchBool, MatchOption};
-ghost use Rattle.std.specs.Prelude.{slice_get, true};
+ghost use Rattle.std.specs.Prelude.{slice_get, true, false};
 ghost use Rattle.bittle_ext.specs.RangeMembers.{HasSomeIn, HasAllIn, LacksSomeIn, members_within};
 ghost use Rattle.bittle_ext.specs.Runs.{IsFirstRun};
-ghost use Rattle.bittle.specs.PlainSet.{ascending, complement, members_below, size};
+ghost use Rattle.bittle.specs.PlainSet.{ascending, complement, contains, members_below, size};
 ghost use Rattle.bittle.specs.Searches.{IsFirstIn, IsLastIn, NoneIn};
 ghost use Rattle.bittle.specs.Values.{set_in, ShapeFits};
 
@@ -30,12 +30,15 @@ pub trait BitsExt: Bits + Sized {
     /// 0b0010_0010u8.first_one();                          // Some(1)
     /// ```
     #[inline]
+    #[tactic(auto, using(crate::proofs::FoundBits::set_at_first))]
     final fn first_one(&self) -> Option<u32>
         requires { ShapeFits Self.Shape self.now }
         ensures least { let ours = set_in Self.Shape Self.Order.Endian self.now in
             IsFirstIn ours 0 ours.capacity result }
         ensures some { let ours = set_in Self.Shape Self.Order.Endian self.now in
             MatchOption result (size ours ≡ 0) (λ _. 0 < size ours) }
+        ensures found { IfSome result (λ index.
+            contains (set_in Self.Shape Self.Order.Endian self.now) index ≡ true) }
     {
         first_from::<Self, Self::Order, Ones>(self, 0)
     }
@@ -53,6 +56,8 @@ pub trait BitsExt: Bits + Sized {
             IsFirstIn (complement ours) 0 ours.capacity result }
         ensures some { let ours = set_in Self.Shape Self.Order.Endian self.now in
             MatchOption result (size ours ≡ ours.capacity) (λ _. size ours < ours.capacity) }
+        ensures found { IfSome result (λ index.
+            contains (set_in Self.Shape Self.Order.Endian self.now) index ≡ false) }
     {
         first_from::<Self, Self::Order, Zeros>(self, 0)
     }
@@ -64,12 +69,15 @@ pub trait BitsExt: Bits + Sized {
     /// 0b0010_0010u8.last_one();                           // Some(5)
     /// ```
     #[inline]
+    #[tactic(auto, using(crate::proofs::FoundBits::set_at_last))]
     final fn last_one(&self) -> Option<u32>
         requires { ShapeFits Self.Shape self.now }
         ensures greatest { let ours = set_in Self.Shape Self.Order.Endian self.now in
             IsLastIn ours 0 ours.capacity result }
         ensures some { let ours = set_in Self.Shape Self.Order.Endian self.now in
             MatchOption result (size ours ≡ 0) (λ _. 0 < size ours) }
+        ensures found { IfSome result (λ index.
+            contains (set_in Self.Shape Self.Order.Endian self.now) index ≡ true) }
     {
         last_of::<Self, Self::Order, Ones>(self)
     }
@@ -87,6 +95,8 @@ pub trait BitsExt: Bits + Sized {
             IsLastIn (complement ours) 0 ours.capacity result }
         ensures some { let ours = set_in Self.Shape Self.Order.Endian self.now in
             MatchOption result (size ours ≡ ours.capacity) (λ _. size ours < ours.capacity) }
+        ensures found { IfSome result (λ index.
+            contains (set_in Self.Shape Self.Order.Endian self.now) index ≡ false) }
     {
         last_of::<Self, Self::Order, Zeros>(self)
     }
@@ -99,10 +109,13 @@ pub trait BitsExt: Bits + Sized {
     /// 0b0010_0010u8.next_one(2);                          // Some(5)
     /// ```
     #[inline]
+    #[tactic(auto, using(crate::proofs::FoundBits::set_at_first))]
     final fn next_one(&self, from: u32) -> Option<u32>
         requires { ShapeFits Self.Shape self.now }
-        ensures { let ours = set_in Self.Shape Self.Order.Endian self.now in
+        ensures least { let ours = set_in Self.Shape Self.Order.Endian self.now in
             IsFirstIn ours from ours.capacity result }
+        ensures found { IfSome result (λ index.
+            contains (set_in Self.Shape Self.Order.Endian self.now) index ≡ true) }
     {
         first_from::<Self, Self::Order, Ones>(self, from)
     }
@@ -117,8 +130,10 @@ pub trait BitsExt: Bits + Sized {
     #[inline]
     final fn next_zero(&self, from: u32) -> Option<u32>
         requires { ShapeFits Self.Shape self.now }
-        ensures { let ours = set_in Self.Shape Self.Order.Endian self.now in
+        ensures least { let ours = set_in Self.Shape Self.Order.Endian self.now in
             IsFirstIn (complement ours) from ours.capacity result }
+        ensures found { IfSome result (λ index.
+            contains (set_in Self.Shape Self.Order.Endian self.now) index ≡ false) }
     {
         first_from::<Self, Self::Order, Zeros>(self, from)
     }
@@ -131,11 +146,14 @@ pub trait BitsExt: Bits + Sized {
     /// 0b0010_0010u8.prev_one(5);                          // Some(1)
     /// ```
     #[inline]
+    #[tactic(auto, using(crate::proofs::FoundBits::set_at_last))]
     final fn prev_one(&self, to: u32) -> Option<u32>
         requires { ShapeFits Self.Shape self.now }
         ensures last { let ours = set_in Self.Shape Self.Order.Endian self.now in
             IsLastIn ours 0 to result }
         ensures below { IfSome result (λ index. index < (Self.big self.now).capacity) }
+        ensures found { IfSome result (λ index.
+            contains (set_in Self.Shape Self.Order.Endian self.now) index ≡ true) }
     {
         self.last_one_in::<Self::Order>(0, to.min(capacity_of::<Self, Self::Order>(self)))
     }
@@ -153,6 +171,8 @@ pub trait BitsExt: Bits + Sized {
         ensures last { let ours = set_in Self.Shape Self.Order.Endian self.now in
             IsLastIn (complement ours) 0 to result }
         ensures below { IfSome result (λ index. index < (Self.big self.now).capacity) }
+        ensures found { IfSome result (λ index.
+            contains (set_in Self.Shape Self.Order.Endian self.now) index ≡ false) }
     {
         self.last_zero_in::<Self::Order>(0, to.min(capacity_of::<Self, Self::Order>(self)))
     }
@@ -221,6 +241,8 @@ pub trait BitsExt: Bits + Sized {
         requires { ShapeFits Self.Shape self.now }
         ensures first { IsFirstIn (set_in Self.Shape Self.Order.Endian self.now) from to result }
         ensures below { IfSome result (λ index. index < (Self.big self.now).capacity) }
+        ensures found { IfSome result (λ index.
+            contains (set_in Self.Shape Self.Order.Endian self.now) index ≡ true) }
     {
         self.first_one_in_span(from..to)
     }
@@ -238,6 +260,8 @@ pub trait BitsExt: Bits + Sized {
         ensures first { IsFirstIn (complement (set_in Self.Shape Self.Order.Endian self.now)) from
             to result }
         ensures below { IfSome result (λ index. index < (Self.big self.now).capacity) }
+        ensures found { IfSome result (λ index.
+            contains (set_in Self.Shape Self.Order.Endian self.now) index ≡ false) }
     {
         self.first_zero_in_span(from..to)
     }
@@ -255,6 +279,8 @@ pub trait BitsExt: Bits + Sized {
         requires { ShapeFits Self.Shape self.now }
         ensures last { IsLastIn (set_in Self.Shape Self.Order.Endian self.now) from to result }
         ensures below { IfSome result (λ index. index < (Self.big self.now).capacity) }
+        ensures found { IfSome result (λ index.
+            contains (set_in Self.Shape Self.Order.Endian self.now) index ≡ true) }
     {
         self.last_one_in_span(from..to)
     }
@@ -272,6 +298,8 @@ pub trait BitsExt: Bits + Sized {
         ensures last { IsLastIn (complement (set_in Self.Shape Self.Order.Endian self.now)) from to
             result }
         ensures below { IfSome result (λ index. index < (Self.big self.now).capacity) }
+        ensures found { IfSome result (λ index.
+            contains (set_in Self.Shape Self.Order.Endian self.now) index ≡ false) }
     {
         self.last_zero_in_span(from..to)
     }
@@ -322,6 +350,9 @@ pub trait BitsExt: Bits + Sized {
         ensures at_most_all { let others =
             complement (set_in Self.Shape Self.Order.Endian self.now) in
             result ≤ size others }
+        ensures others { let ours = set_in Self.Shape Self.Order.Endian self.now in
+            from ≤ to → to ≤ ours.capacity →
+            result + (members_below ours to - members_below ours from) ≡ to - from }
     {
         self.count_zeros_in_span(from..to)
     }
@@ -383,8 +414,10 @@ pub trait BitsExt: Bits + Sized {
     #[inline]
     final fn next_zero_run(&self, from: u32, length: u32) -> Option<u32>
         requires { ShapeFits Self.Shape self.now }
-        ensures { IsFirstRun (complement (set_in Self.Shape Self.Order.Endian self.now)) from length
-            result }
+        ensures run { IsFirstRun (complement (set_in Self.Shape Self.Order.Endian self.now))
+            from length result }
+        ensures free { IfSome result (λ index.
+            NoneIn (set_in Self.Shape Self.Order.Endian self.now) index (index + length)) }
     {
         runs::next_run::<Self, Self::Order, Zeros>(self, from, length)
     }
@@ -398,8 +431,10 @@ pub trait BitsExt: Bits + Sized {
     #[inline]
     final fn first_zero_run(&self, length: u32) -> Option<u32>
         requires { ShapeFits Self.Shape self.now }
-        ensures { IsFirstRun (complement (set_in Self.Shape Self.Order.Endian self.now)) 0 length
-            result }
+        ensures run { IsFirstRun (complement (set_in Self.Shape Self.Order.Endian self.now))
+            0 length result }
+        ensures free { IfSome result (λ index.
+            NoneIn (set_in Self.Shape Self.Order.Endian self.now) index (index + length)) }
     {
         self.next_zero_run(0, length)
     }
@@ -474,6 +509,8 @@ pub trait BitsExt: Bits + Sized {
         ensures run { IsFirstRun (members_within (complement (set_in Self.Shape Self.Order.Endian
             self.now)) from to) from length result }
         ensures inside { from ≤ to → IfSome result (λ index. index + length ≤ to) }
+        ensures free { IfSome result (λ index.
+            NoneIn (set_in Self.Shape Self.Order.Endian self.now) index (index + length)) }
     {
         runs::run_in_range::<Self, Self::Order, Zeros>(self, from, to, length)
     }

@@ -263,6 +263,8 @@ pub trait BitsMutExt: BitsMut + Sized {
             (size (set_in Self.Shape Self.Order.Endian self.old) ≡ 0)
             (λ index. size (set_in Self.Shape Self.Order.Endian self.new) + 1
             ≡ size (set_in Self.Shape Self.Order.Endian self.old)) }
+        ensures was_set { IfSome result (λ index.
+            contains (set_in Self.Shape Self.Order.Endian self.old) index ≡ true) }
         ensures gone { IfSome result (λ index.
             contains (set_in Self.Shape Self.Order.Endian self.new) index ≡ false) }
         ensures stays { Self.loan self.old ≡ Self.loan self.new }
@@ -295,6 +297,8 @@ pub trait BitsMutExt: BitsMut + Sized {
             (size (set_in Self.Shape Self.Order.Endian self.old) ≡ 0)
             (λ index. size (set_in Self.Shape Self.Order.Endian self.new) + 1
             ≡ size (set_in Self.Shape Self.Order.Endian self.old)) }
+        ensures was_set { IfSome result (λ index.
+            contains (set_in Self.Shape Self.Order.Endian self.old) index ≡ true) }
         ensures gone { IfSome result (λ index.
             contains (set_in Self.Shape Self.Order.Endian self.new) index ≡ false) }
         ensures stays { Self.loan self.old ≡ Self.loan self.new }
@@ -327,6 +331,8 @@ pub trait BitsMutExt: BitsMut + Sized {
             (size (set_in Self.Shape Self.Order.Endian self.old) ≡ (Self.big self.old).capacity)
             (λ index. size (set_in Self.Shape Self.Order.Endian self.new)
             ≡ size (set_in Self.Shape Self.Order.Endian self.old) + 1) }
+        ensures was_unset { IfSome result (λ index.
+            contains (set_in Self.Shape Self.Order.Endian self.old) index ≡ false) }
         ensures taken { IfSome result (λ index.
             contains (set_in Self.Shape Self.Order.Endian self.new) index ≡ true) }
         ensures stays { Self.loan self.old ≡ Self.loan self.new }
@@ -359,6 +365,8 @@ pub trait BitsMutExt: BitsMut + Sized {
         ensures more { MatchOption result (self.new ≡ self.old)
             (λ from. size (set_in Self.Shape Self.Order.Endian self.new)
             ≡ size (set_in Self.Shape Self.Order.Endian self.old) + length) }
+        ensures was_free { IfSome result (λ from.
+            NoneIn (set_in Self.Shape Self.Order.Endian self.old) from (from + length)) }
         ensures taken { IfSome result (λ from.
             HasAllIn (set_in Self.Shape Self.Order.Endian self.new) from (from + length)) }
         ensures stays { Self.loan self.old ≡ Self.loan self.new }
@@ -516,6 +524,9 @@ pub trait BitsMutExt: BitsMut + Sized {
         requires within { to ≤ (Self.big self.old).capacity }
         ensures set { set_in Self.Shape Self.Order.Endian self.new
             ≡ with_span_toggled (set_in Self.Shape Self.Order.Endian self.old) from to }
+        ensures flipped { (k : ℕ) → from ≤ k → k < to
+            → contains (set_in Self.Shape Self.Order.Endian self.new) k
+            ≡ not (contains (set_in Self.Shape Self.Order.Endian self.old) k) }
         ensures stays { Self.loan self.old ≡ Self.loan self.new }
     {
         self.toggle_range_in::<Self::Order>(from, to);

@@ -12,6 +12,7 @@ ghost use Rattle.bittle.specs.PlainSet.{with_span, without_span, with_span_toggl
 ghost use Rattle.bittle.specs.Searches.{NoneIn};
 ghost use Rattle.bittle.specs.Values.{set_in, set_mirrored};
 ghost use Rattle.bittle_ext.specs.RangeMembers.{HasAllIn};
+ghost use Rattle.bittle_ext.specs.SetRelations.{AreDisjoint};
 
 use crate::bits_mut_ext::BitsMutExt;
 use crate::bits_span_mut_ext::BitsSpanMutExt;
@@ -39,6 +40,8 @@ pub trait BitsOwnedExt: BitsOwned {
         ensures in_each_order { (mirrored : Bool) → set_mirrored Self.Shape mirrored result
             ≡ complement (set_mirrored Self.Shape mirrored self) }
         ensures count { size (Self.big result) + size (Self.big self) ≡ (Self.big self).capacity }
+        ensures apart { AreDisjoint (set_in Self.Shape Self.Order.Endian self)
+            (set_in Self.Shape Self.Order.Endian result) }
     {
         Self::ones().difference(self)
     }

@@ -1,6 +1,6 @@
 //! Calls that count unset bits below an index, and that find an unset bit by its rank.
 
-ghost use Rattle.std.specs.Prelude.{◌≡◌, ◌<◌, ◌≤◌, true, IfSome, MatchOption, slice_get};
+ghost use Rattle.std.specs.Prelude.{◌≡◌, ◌+◌, ◌<◌, ◌≤◌, true, IfSome, MatchOption, slice_get};
 ghost use Rattle.bittle.specs.PlainSet.{ascending, complement, members_below, size};
 ghost use Rattle.bittle.specs.Values.{set_in, ShapeFits};
 
@@ -32,6 +32,8 @@ pub trait BitsRankExt: Bits + Sized {
         ensures below_member { let unset = complement
             (set_in Self.Shape Self.Order.Endian self.now) in
             unset.has index ≡ true → result < size unset }
+        ensures others { let ours = set_in Self.Shape Self.Order.Endian self.now in
+            index ≤ ours.capacity → result + members_below ours index ≡ index }
     {
         self.count_zeros_in_range(0, index)
     }

@@ -1,11 +1,11 @@
 //! Reads of a range of a set, where the range is a Rust range: `2..7`, `2..=6`, `..7`, `50..`,
 //! `..`.
 
-ghost use Rattle.std.specs.Prelude.{◌≡◌, ◌-◌, ◌<◌, ◌≤◌, IfSome, MatchBool};
+ghost use Rattle.std.specs.Prelude.{◌≡◌, ◌+◌, ◌-◌, ◌<◌, ◌≤◌, true, false, IfSome, MatchBool};
 ghost use Rattle.std.specs.Range.Bound.{start_index, end_index};
 ghost use Rattle.bittle_ext.specs.RangeMembers.{members_within, HasSomeIn, HasAllIn, IsPartBelow};
 ghost use Rattle.bittle_ext.specs.RangeMembers.{LacksSomeIn, ListsWithin};
-ghost use Rattle.bittle.specs.PlainSet.{complement, members_below, size};
+ghost use Rattle.bittle.specs.PlainSet.{complement, contains, members_below, size};
 ghost use Rattle.bittle.specs.Searches.{IsFirstIn, IsLastIn, NoneIn};
 ghost use Rattle.bittle.specs.Values.{set_in, word_count, ShapeFits};
 ghost use Rattle.bittle.specs.Walk.{AreBelow, IsFresh};
@@ -80,6 +80,11 @@ pub trait BitsSpanExt: Bits + Sized {
         ensures at_most_all { let others =
             complement (set_in Self.Shape Self.Order.Endian self.now) in
             result ≤ size others }
+        ensures others { let ours = set_in Self.Shape Self.Order.Endian self.now in
+            let start = start_index (R.start_bound range) in
+            let end = end_index (R.end_bound range) (Self.big self.now).capacity in
+            start ≤ end → end ≤ ours.capacity →
+            result + (members_below ours end - members_below ours start) ≡ end - start }
     {
         let (start, end) = part_of::<Self, Self::Order, R>(self, &range);
         end - start - self.count_ones_in_range_in::<Self::Order>(start, end)
@@ -92,7 +97,7 @@ pub trait BitsSpanExt: Bits + Sized {
     /// 0b0110_0010u8.first_one_in_span(2..);               // Some(5)
     /// ```
     #[inline]
-    #[tactic(auto, using(crate::proofs::RangesBelow::first_of_part))]
+    #[tactic(auto, using(crate::proofs::RangesBelow::first_of_part, crate::proofs::FoundBits::set_at_first))]
     final fn first_one_in_span<R: RangeBounds<u32>>(&self, range: R) -> Option<u32>
         requires fits { ShapeFits Self.Shape self.now }
         requires known { R.has_bounds range }
@@ -100,6 +105,8 @@ pub trait BitsSpanExt: Bits + Sized {
             let end = end_index (R.end_bound range) (Self.big self.now).capacity in
             IsFirstIn (set_in Self.Shape Self.Order.Endian self.now) start end result }
         ensures below { IfSome result (λ index. index < (Self.big self.now).capacity) }
+        ensures found { IfSome result (λ index.
+            contains (set_in Self.Shape Self.Order.Endian self.now) index ≡ true) }
     {
         let (start, end) = part_of::<Self, Self::Order, R>(self, &range);
         self.first_one_in::<Self::Order>(start, end)
@@ -121,6 +128,8 @@ pub trait BitsSpanExt: Bits + Sized {
             IsFirstIn (complement (set_in Self.Shape Self.Order.Endian self.now)) start end
             result }
         ensures below { IfSome result (λ index. index < (Self.big self.now).capacity) }
+        ensures found { IfSome result (λ index.
+            contains (set_in Self.Shape Self.Order.Endian self.now) index ≡ false) }
     {
         let (start, end) = part_of::<Self, Self::Order, R>(self, &range);
         self.first_zero_in::<Self::Order>(start, end)
@@ -133,7 +142,7 @@ pub trait BitsSpanExt: Bits + Sized {
     /// 0b0110_0010u8.last_one_in_span(..5);                // Some(1)
     /// ```
     #[inline]
-    #[tactic(auto, using(crate::proofs::RangesBelow::last_of_part))]
+    #[tactic(auto, using(crate::proofs::RangesBelow::last_of_part, crate::proofs::FoundBits::set_at_last))]
     final fn last_one_in_span<R: RangeBounds<u32>>(&self, range: R) -> Option<u32>
         requires fits { ShapeFits Self.Shape self.now }
         requires known { R.has_bounds range }
@@ -141,6 +150,8 @@ pub trait BitsSpanExt: Bits + Sized {
             let end = end_index (R.end_bound range) (Self.big self.now).capacity in
             IsLastIn (set_in Self.Shape Self.Order.Endian self.now) start end result }
         ensures below { IfSome result (λ index. index < (Self.big self.now).capacity) }
+        ensures found { IfSome result (λ index.
+            contains (set_in Self.Shape Self.Order.Endian self.now) index ≡ true) }
     {
         let (start, end) = part_of::<Self, Self::Order, R>(self, &range);
         self.last_one_in::<Self::Order>(start, end)
@@ -162,6 +173,8 @@ pub trait BitsSpanExt: Bits + Sized {
             IsLastIn (complement (set_in Self.Shape Self.Order.Endian self.now)) start end
             result }
         ensures below { IfSome result (λ index. index < (Self.big self.now).capacity) }
+        ensures found { IfSome result (λ index.
+            contains (set_in Self.Shape Self.Order.Endian self.now) index ≡ false) }
     {
         let (start, end) = part_of::<Self, Self::Order, R>(self, &range);
         self.last_zero_in::<Self::Order>(start, end)

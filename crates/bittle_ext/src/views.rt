@@ -172,6 +172,9 @@ pub trait BitsViewExt: Bits {
             Self.Order.Endian result) ≡ ascending (either_of
             (set_in Self.Shape Self.Order.Endian self.now)
             (set_in B.Shape B.Order.Endian other.now)) }
+        ensures at_least { size (set_in Self.Shape Self.Order.Endian self.now)
+            ≤ size (set_in ⟦<OrView<'a, Self, B, Self::Order, B::Order> as Shape>⟧
+            Self.Order.Endian result) }
         ensures view_fits { ShapeFits
             ⟦<OrView<'a, Self, B, Self::Order, B::Order> as Shape>⟧ result }
     {

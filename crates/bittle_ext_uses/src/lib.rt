@@ -15,6 +15,7 @@ pub mod filled;
 pub mod first_forms;
 pub mod found_bits;
 pub mod graphs;
+pub mod handed_on;
 pub mod kept_members;
 pub mod known_members;
 pub mod lent_changes;

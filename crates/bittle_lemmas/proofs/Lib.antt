@@ -3,7 +3,6 @@ pub mod ExcludedSets
 pub mod FoundNumbers
 pub mod IncludedPairs
 pub mod ListedNumbers
-pub mod OutsideBoth
 pub mod SetSpans
 pub mod StdCounts
 pub mod TestedRanges

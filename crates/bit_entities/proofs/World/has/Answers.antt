@@ -11,7 +11,7 @@ returns-then-entity-bits-clause-value g c =
     let found = c.in-Some.ensures.lookup in
     let capacity = g.met.B.FixedCapacity.one_capacity c.in-Some.mask.now in
     let bits = c.bits.ensures.value c.args.self.now.fits in
-    c.test_bit.ensures
+    c.test_bit.ensures.value
     ∙ contains_within _ c.args.entity (omega (arith, capacity, bits, c.if-entity-bits.true))
     ∙ ap (λ o. is_in (set_in g.B.Shape g.B.Order.Endian) o c.args.entity)
     (sym (slice_get_read masks (length masks) c.args.component c.in-Some.mask.now refl found.3.0

@@ -6,5 +6,5 @@ pub returns-then-entity-bits-clause-value : goal.returns-then-entity-bits-clause
 returns-then-entity-bits-clause-value g c =
     let capacity = g.met.B.FixedCapacity.one_capacity c.args.self.now.alive in
     let bits = c.bits.ensures.value c.args.self.now.fits in
-    c.test_bit.ensures ∙ contains_within _ c.args.entity
+    c.test_bit.ensures.value ∙ contains_within _ c.args.entity
     (omega (arith, capacity, bits, c.if-entity-bits.true))

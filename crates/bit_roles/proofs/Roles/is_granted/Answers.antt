@@ -10,7 +10,8 @@ returns-then-permission-bits-clause-value g c =
     let found = c.in-Some.ensures.lookup in
     let capacity = g.met.B.FixedCapacity.one_capacity c.in-Some.set.now in
     let bits = c.bits.ensures.value c.args.self.now.fits in
-    c.test_bit.ensures ∙ permission_within (set_in g.B.Shape g.B.Order.Endian) _ c.in-Some.set.now
+    c.test_bit.ensures.value
+    ∙ permission_within (set_in g.B.Shape g.B.Order.Endian) _ c.in-Some.set.now
     c.args.permission
     (slice_get_read granted (length granted) c.args.role c.in-Some.set.now refl found.3.0 found.1)
     (omega (arith, capacity, bits, c.if-permission-bits.true))

@@ -50,12 +50,12 @@ loop-k-preserved c =
     elim c.if-test_bit.branch [
       | then-test_bit w ↦ rw (w.to-is) record {
         below = set_below _ _ _ c.loop-k-test.true below past _ w.set_bit.ensures.set
-            (sym c.test_bit.ensures ∙ w.if-test_bit.true);
+            (sym c.test_bit.ensures.value ∙ w.if-test_bit.true);
         past = set_past _ _ _ c.loop-k-test.true below past _ w.set_bit.ensures.set;
       }
       | else-test_bit w ↦ rw (w.to-is) record {
         below = unset_below _ _ _ c.loop-k-test.true below past
-            (sym c.test_bit.ensures ∙ w.if-test_bit.false);
+            (sym c.test_bit.ensures.value ∙ w.if-test_bit.false);
         past = λ j from up. past j (omega (arith, from)) up;
       }
     ]

@@ -1,7 +1,12 @@
 use Rattle.bittle.specs.Values.{set_in}
 use Rattle.bittle_ext.proofs.FoundSizes.{last_unset_tells_size}
+use Rattle.bittle_ext.proofs.FoundBits.{unset_at_last}
 use Rattle.bittle_ext.proofs.bits_ext.BitsExt.last_zero.Goals as goal
 
 pub returns-clause-some : goal.returns-clause-some
 returns-clause-some g c = last_unset_tells_size
     (set_in g.Self.Shape g.Self.Order.Endian c.args.self.now) _ c.last_of.ensures
+
+pub returns-clause-found : goal.returns-clause-found
+returns-clause-found g c =
+    unset_at_last (set_in g.Self.Shape g.Self.Order.Endian c.args.self.now) _ _ _ c.last_of.ensures

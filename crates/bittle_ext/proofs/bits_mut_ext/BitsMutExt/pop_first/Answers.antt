@@ -1,7 +1,7 @@
 use Rattle.std.proofs.Common.{◌+◌, sym, ap, ◌∙◌, arith}
 use Rattle.bittle.specs.PlainSet.{size}
 use Rattle.bittle.proofs.CallerChanges.{contains_after_clear, size_without}
-use Rattle.bittle.proofs.CallerSets.{size_zero}
+use Rattle.bittle.proofs.CallerSets.{contains_within, size_zero}
 use Rattle.bittle_ext.proofs.bits_mut_ext.BitsMutExt.pop_first.Goals as goal
 
 pub returns-in_err-first-clause-fewer : goal.returns-in_err-first-clause-fewer
@@ -24,3 +24,7 @@ returns-clause-fewer g c =
 
 pub returns-clause-gone : goal.returns-clause-gone
 returns-clause-gone g c = contains_after_clear _ _ _ c.flip_first.ensures.set
+
+pub returns-clause-was_set : goal.returns-clause-was_set
+returns-clause-was_set g c =
+    let found = c.in_ok-first.ensures in contains_within _ _ found.1 ∙ found.2

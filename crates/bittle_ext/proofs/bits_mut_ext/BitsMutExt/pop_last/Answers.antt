@@ -3,7 +3,7 @@ use Rattle.std.proofs.lemmas.Bool.{and_right}
 use Rattle.bittle.specs.PlainSet.{PlainSet, contains, size}
 use Rattle.bittle.specs.Values.{set_in}
 use Rattle.bittle.proofs.CallerChanges.{contains_after_clear, size_without}
-use Rattle.bittle.proofs.CallerSets.{size_zero}
+use Rattle.bittle.proofs.CallerSets.{contains_within, size_zero}
 use Rattle.bittle_ext.specs.Changes.{with_index_assigned}
 use Rattle.bittle_ext.proofs.bits_mut_ext.BitsMutExt.pop_last.Goals as goal
 
@@ -25,3 +25,7 @@ returns-clause-fewer g c =
 
 pub returns-clause-gone : goal.returns-clause-gone
 returns-clause-gone g c = contains_after_clear _ _ _ (returns-clause-set g c)
+
+pub returns-clause-was_set : goal.returns-clause-was_set
+returns-clause-was_set g c =
+    let found = c.in_ok-last.ensures in contains_within _ _ found.1 ∙ found.2

@@ -5,6 +5,7 @@ use Rattle.bittle.specs.Values.{set_in}
 use Rattle.bittle.proofs.CallerChanges.{contains_after_set, size_with}
 use Rattle.bittle.proofs.CallerSets.{complement_within, size_zero}
 use Rattle.bittle_bits.proofs.Sizes.{size-complement}
+use Rattle.bittle_ext.proofs.CallerMembers.{unset_where_found}
 use Rattle.bittle_ext.proofs.bits_mut_ext.BitsMutExt.take_first_zero.Goals as goal
 
 pub flip_first-requires-clause-least : goal.flip_first-requires-clause-least
@@ -33,3 +34,8 @@ returns-clause-more g c =
 pub returns-clause-taken : goal.returns-clause-taken
 returns-clause-taken g c = contains_after_set _ _ _ c.flip_first.ensures.set
     (omega (arith, c.in_ok-free.ensures.1))
+
+pub returns-clause-was_unset : goal.returns-clause-was_unset
+returns-clause-was_unset g c =
+    unset_where_found (set_in g.Self.Shape g.Self.Order.Endian c.args.self.now) _
+    c.in_ok-free.ensures.2

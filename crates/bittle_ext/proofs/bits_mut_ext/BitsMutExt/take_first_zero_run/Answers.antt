@@ -9,7 +9,7 @@ pub returns-clause-more : goal.returns-clause-more
 returns-clause-more g c =
     ap size c.set_range_in.ensures.set
     ∙ size_with_run (set_in g.Self.Shape g.Self.Order.Endian c.args.self.now) c.args.length _
-    c.in_ok-from.ensures.1
+    c.in_ok-from.ensures.run.1
 
 pub returns-clause-taken : goal.returns-clause-taken
 returns-clause-taken g c k low high =

@@ -2,7 +2,7 @@ use Rattle.std.proofs.Common.{◌≡◌, ◌-◌, ◌∙◌, arith}
 use Rattle.bittle.specs.PlainSet.{complement, members_below}
 use Rattle.bittle.specs.Values.{set_in}
 use Rattle.bittle_bits.proofs.MembersBelow.{below_between}
-use Rattle.bittle_ext.proofs.RankFacts.{below_others}
+use Rattle.bittle_ext.proofs.RankFacts.{below_others, range_others}
 use Rattle.bittle_ext.proofs.RangesBelow.{count_of_part}
 use Rattle.bittle_ext.proofs.bits_span_ext.BitsSpanExt.count_zeros_in_span.Goals as goal
 
@@ -43,3 +43,8 @@ returns-clause-at_most_all g c =
       between.1,
       part.ordered,
     )
+
+pub returns-clause-others : goal.returns-clause-others
+returns-clause-others g c ordered within =
+    range_others (set_in g.Self.Shape g.Self.Order.Endian c.args.self.now) _ _ _ ordered within
+    (returns-clause-value g c)

@@ -1,0 +1,236 @@
+//! Functions that hand what a call returned to the next call: the index that a search found to a
+//! test or a change of this bit, or the set that an operation made to a test of two sets. No
+//! function names a lemma, and none has a proof file.
+
+ghost use Rattle.std.specs.Prelude.{◌≡◌, ◌+◌, ◌*◌, ◌<◌, ◌≤◌, length, IfSome, MatchBool};
+ghost use Rattle.std.specs.Prelude.{true, false};
+ghost use Rattle.bittle.specs.PlainSet.{size};
+ghost use Rattle.bittle.specs.Rows.{row_set};
+ghost use Rattle.bittle.specs.BitPatterns.{bit_set};
+ghost use Rattle.bittle.specs.Values.{set_in, ShapeFits};
+
+use bittle::{Bits, BitsMut, BitsOwned, LittleEndian};
+use bittle_ext::prelude::*;
+
+/// Books the first free seat. Returns whether there was one.
+pub fn book_first(seats: &mut [u32; 4]) -> bool
+    ensures { MatchBool result
+        (size (row_set 4 32 (bit_set 32) seats.new)
+        ≡ size (row_set 4 32 (bit_set 32) seats.old) + 1)
+        (size (row_set 4 32 (bit_set 32) seats.old) ≡ 128) }
+{
+    match seats.first_zero() {
+        Some(seat) => seats.insert(seat),
+        None => false,
+    }
+}
+
+/// Inserts the first index that a set of any shape lacks. Returns whether there is one.
+pub fn insert_first<B: BitsMut>(set: &mut B) -> bool
+    requires { ShapeFits B.Shape set.old }
+    ensures { MatchBool result
+        (size (set_in B.Shape B.Order.Endian set.new)
+        ≡ size (set_in B.Shape B.Order.Endian set.old) + 1)
+        (size (set_in B.Shape B.Order.Endian set.old) ≡ (B.big set.old).capacity) }
+{
+    match set.first_zero() {
+        Some(index) => set.insert(index),
+        None => false,
+    }
+}
+
+/// Inserts the first index from `from` on that a word lacks. `insert` says that it is new.
+pub fn insert_next(mut word: u64, from: u32) -> bool
+    ensures { result ≡ true }
+{
+    match word.next_zero(from) {
+        Some(index) => word.insert(index),
+        None => true,
+    }
+}
+
+/// Inserts the first index of a range that a word lacks. `insert` says that it is new.
+pub fn insert_within(mut word: u64) -> bool
+    ensures { result ≡ true }
+{
+    match word.first_zero_in_span(10..) {
+        Some(index) => word.insert(index),
+        None => true,
+    }
+}
+
+/// Removes the greatest index of a row. `remove` says that it was there.
+pub fn remove_last(mut row: [u32; 4]) -> Option<bool>
+    ensures { IfSome result (λ there. there ≡ true) }
+{
+    let index = row.last_one()?;
+    Some(row.remove(index))
+}
+
+/// Tests the first set bit of a set of any shape.
+pub fn test_first<B: Bits>(set: &B) -> bool
+    requires { ShapeFits B.Shape set.now }
+    ensures { result ≡ true }
+{
+    match set.first_one() {
+        Some(index) => set.test_bit(index),
+        None => true,
+    }
+}
+
+/// Tests the first set bit of a slice of any length that fits.
+pub fn test_first_of_slice(words: &[u64]) -> bool
+    requires { length words.now * 64 < 4294967295 }
+    ensures { result ≡ true }
+{
+    match words.first_one() {
+        Some(index) => words.test_bit(index),
+        None => true,
+    }
+}
+
+/// Tests the first set bit of a word in little-endian order.
+pub fn test_first_le(word: u64) -> bool
+    ensures { result ≡ true }
+{
+    match word.in_order::<LittleEndian>().first_one() {
+        Some(index) => word.test_bit_le(index),
+        None => true,
+    }
+}
+
+/// Tests an unset bit.
+pub fn test_zero(row: &[u32; 4], from: u32) -> bool
+    ensures { result ≡ false }
+{
+    match row.next_zero(from) {
+        Some(index) => row.test_bit(index),
+        None => false,
+    }
+}
+
+/// Tests the set bit that has four set bits below it.
+pub fn test_fifth(row: &[u32; 4]) -> Option<bool>
+    ensures { IfSome result (λ told. told ≡ true) }
+{
+    let index = row.select(4)?;
+    Some(row.test_bit(index))
+}
+
+/// Tests, in both sets, the first index that they have in common.
+pub fn test_common(row: &[u32; 4], other: &[u32; 4]) -> bool
+    ensures { result ≡ true }
+{
+    match row.first_common(other) {
+        Some(index) => row.test_bit(index) && other.test_bit(index),
+        None => true,
+    }
+}
+
+/// Tests an index in a set if a subset has it.
+pub fn test_in_greater(row: &[u32; 4], other: &[u32; 4], index: u32) -> bool
+    requires { index < 128 }
+    ensures { result ≡ true }
+{
+    if row.is_subset(other) && row.test_bit(index) {
+        other.test_bit(index)
+    } else {
+        true
+    }
+}
+
+/// Takes two free seats, and returns whether they differ.
+pub fn take_two(mut seats: [u32; 4]) -> bool
+    ensures { result ≡ true }
+{
+    match seats.take_first_zero() {
+        Some(one) => match seats.take_first_zero() {
+            Some(other) => one != other,
+            None => true,
+        },
+        None => true,
+    }
+}
+
+/// Counts the set bits of a run of unset bits.
+pub fn count_in_run(map: &[u64; 4], pages: u32) -> u32
+    ensures { result ≡ 0 }
+{
+    match map.first_zero_run(pages) {
+        Some(first) => map.count_ones_in_range(first, first + pages),
+        None => 0,
+    }
+}
+
+/// Returns whether a run of unset bits, found in a range, has a set bit.
+pub fn test_run(map: &[u64; 4]) -> bool
+    ensures { result ≡ false }
+{
+    match map.first_zero_run_in_range(1, 200, 9) {
+        Some(first) => map.any_in_range(first, first + 9),
+        None => false,
+    }
+}
+
+/// Counts the set bits and the unset bits of a range.
+pub fn count_both(row: &[u32; 4], from: u32, to: u32) -> u32
+    requires ordered { from ≤ to }
+    requires within { to ≤ 128 }
+    ensures { from + result ≡ to }
+{
+    row.count_ones_in_range(from, to) + row.count_zeros_in_range(from, to)
+}
+
+/// Counts the set bits and the unset bits below an index.
+pub fn rank_both(row: &[u32; 4], index: u32) -> u32
+    requires { index ≤ 128 }
+    ensures { result ≡ index }
+{
+    row.rank(index) + row.rank_zero(index)
+}
+
+/// Flips a range, and returns whether a bit of it differs from what it was.
+pub fn flip_and_compare(mut row: [u32; 4]) -> bool
+    ensures { result ≡ true }
+{
+    let before = row.test_bit(4);
+    row.toggle_range(3, 9);
+    row.test_bit(4) != before
+}
+
+/// Returns whether a union has all members of both words.
+pub fn is_union_greater(word: u64, other: u64) -> bool
+    ensures { result ≡ true }
+{
+    word.is_subset(&word.union(other)) && other.is_subset(&word.union(other))
+}
+
+/// Returns whether a conjunction has no member that one of the two words lacks.
+pub fn is_conjunction_lesser(word: u64, other: u64) -> bool
+    ensures { result ≡ true }
+{
+    word.conjunction(other).is_subset(&word) && word.conjunction(other).is_subset(&other)
+}
+
+/// Returns whether a difference lies in the first word and outside the other.
+pub fn is_difference_apart(word: u64, other: u64) -> bool
+    ensures { result ≡ true }
+{
+    word.difference(other).is_subset(&word) && word.difference(other).is_disjoint(&other)
+}
+
+/// Returns whether a word and its complement have no member in common.
+pub fn is_complement_apart(word: u64) -> bool
+    ensures { result ≡ true }
+{
+    word.is_disjoint(&word.complement())
+}
+
+/// Counts the members of a union and of a conjunction, and compares the counts with that of one
+/// set.
+pub fn compare_counts(row: [u32; 4], other: [u32; 4]) -> bool
+    ensures { result ≡ true }
+{
+    row.conjunction(other).count_ones() <= row.count_ones()
+        && row.count_ones() <= row.union(other).count_ones()
+}
