@@ -68,7 +68,6 @@ pub fn was_there_all(days: u32, from: u32, to: u32) -> bool
 }
 
 /// Returns the first day from day `from` on that a person was absent, in a month of 31 days.
-#[tactic(auto, using(bittle_ext::proofs::CallerMembers::unset_where_found))]
 pub fn first_absence(days: u32, from: u32) -> Option<u32>
     ensures unset { IfSome result (λ day. contains (bit_set 32 days) day ≡ false) }
     ensures before { IfSome result

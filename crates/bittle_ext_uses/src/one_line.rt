@@ -2,13 +2,14 @@
 
 ghost use Rattle.std.specs.List.{All, list_any};
 ghost use Rattle.std.specs.Prelude.{◌≡◌, ◌≢◌, ◌==◌, ◌+◌, ◌-◌, ◌<◌, ◌≤◌, ◌||◌, ℕ, true, false};
-ghost use Rattle.std.specs.Prelude.{length};
-ghost use Rattle.std.specs.Prelude.{IfSome};
+ghost use Rattle.std.specs.Prelude.{length, IfSome};
 ghost use Rattle.bittle.specs.BitPatterns.{bit_set};
-ghost use Rattle.bittle.specs.PlainSet.{contains, size};
+ghost use Rattle.bittle.specs.PlainSet.{complement, contains, size};
 ghost use Rattle.bittle.specs.Rows.{row_set};
 ghost use Rattle.bittle.specs.Searches.{NoneIn};
 ghost use Rattle.bittle.specs.SetOperations.{difference_of, union_of};
+ghost use Rattle.bittle_ext.specs.Combined.{either_of};
+ghost use Rattle.bittle_ext.specs.Runs.{IsFirstRun};
 
 use bittle::{BitsMut, BitsOwned};
 use bittle_ext::prelude::*;
@@ -54,7 +55,6 @@ pub fn fill_free(row: &mut [u64; 4], from: u32, to: u32)
 }
 
 /// Returns the first hour that is not taken. Each hour before it is taken.
-#[tactic(auto, using(bittle_ext::proofs::CallerMembers::unset_where_found))]
 pub fn free_hour(taken: u32) -> Option<u32>
     ensures unset { IfSome result (λ hour. contains (bit_set 32 taken) hour ≡ false) }
     ensures before { IfSome result
@@ -104,7 +104,6 @@ pub fn offered(one: u64, other: u64, reserved: u64) -> u64
 }
 
 /// Returns how many seats are taken before the first free one, or 64 if none is free.
-#[tactic(auto, using(bittle_ext::proofs::CallerMembers::unset_where_found))]
 pub fn taken_from_first(taken: u64) -> u32
     ensures taken { (k : ℕ) → k < result → contains (bit_set 64 taken) k ≡ true }
     ensures free { result < 64 → contains (bit_set 64 taken) result ≡ false }
@@ -113,4 +112,46 @@ pub fn taken_from_first(taken: u64) -> u32
         Some(seat) => seat,
         None => 64,
     }
+}
+
+/// Sets in `row` each bit that is set in `other`. A bit is set then exactly if it is set in one of
+/// the two.
+pub fn gather(row: &mut u64, other: u64)
+    ensures { (k : ℕ) → k < 64 → contains (bit_set 64 row.new) k
+        ≡ (contains (bit_set 64 row.old) k || contains (bit_set 64 other) k) }
+{
+    row.union_with(&other);
+}
+
+/// Copies the bits 8 to 12 to the bits 20 to 24.
+pub fn copy_up(row: &mut [u64; 4])
+    ensures { (i : ℕ) → i < 5 → contains (row_set 4 64 (bit_set 64) row.new) (20 + i)
+        ≡ (row_set 4 64 (bit_set 64) row.old).has (8 + i) }
+{
+    row.copy_within(8, 13, 20);
+}
+
+/// Returns where a block of `length` free pages begins. No page of the block is taken.
+pub fn free_block(taken: &[u64; 4], length: u32) -> Option<u32>
+    ensures { IfSome result (λ first. (k : ℕ) → first ≤ k → k < first + length
+        → contains (row_set 4 64 (bit_set 64) taken.now) k ≡ false) }
+{
+    let first = taken.first_zero_run(length)?;
+    Some(first)
+}
+
+/// Returns where the first run of `length` numbers begins that are free in both maps.
+pub fn free_in_both_maps(one: &[u64; 4], other: &[u64; 4], length: u32) -> Option<u32>
+    ensures { IsFirstRun (complement (either_of (row_set 4 64 (bit_set 64) one.now)
+        (row_set 4 64 (bit_set 64) other.now))) 0 length result }
+{
+    one.or(other).first_zero_run(length)
+}
+
+/// Returns the permissions of three roles together.
+pub fn of_three_roles(one: u32, other: u32, third: u32) -> u32
+    ensures { bit_set 32 result
+        ≡ union_of (union_of (bit_set 32 one) (bit_set 32 other)) (bit_set 32 third) }
+{
+    one.union(other).union(third)
 }
