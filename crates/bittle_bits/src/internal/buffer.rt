@@ -13,7 +13,7 @@ ghost use Rattle.bittle_bits.specs.Orders.{place, read_in};
 ghost use Rattle.bittle_bits.specs.PlainSet.{ascending, full_set};
 ghost use Rattle.bittle_bits.specs.Values.{ShapeFits};
 
-use crate::end::End;
+use crate::end::{Back, End, Front};
 use crate::endian::Endian;
 use crate::internal::source::Source;
 use crate::kind::Kind;
@@ -118,6 +118,30 @@ fn bit_count<W: Word>(words: usize) -> u32
     ensures { result ≡ words * W.width }
 {
     words.rotate_left(W::width().trailing_zeros()) as u32
+}
+
+// Returns a buffered word for the end `N` with no word loaded. No bit of its word is set, so its
+// mask decides nothing. Where a step takes the bit of least weight, the mask is made of a number
+// that is no constant: with a constant, the compiler would clear and test by two instructions in
+// each step. Where a step takes the bit of greatest weight, each bit of the mask is set, as in a
+// loaded word. So the mask is the same in each step, and the compiler drops it.
+#[inline(always)]
+#[tactic(auto, unfolding(crate::specs::Buffers::buffered_items))]
+fn unloaded<W: Word, E: Endian, N: End>(words: usize) -> BufferedWord<W>
+    ensures items { items_held W.Word E.Endian result ≡ None }
+    ensures sound { HoldsSound W.Word E.Endian result }
+{
+    let ones = one_word::ones::<W>();
+    BufferedWord {
+        word: W::zero(),
+        mask: if E::is_mirrored() == N::FRONT {
+            ones
+        } else {
+            W::from_bits(words as u128 & ones.to_bits())
+        },
+        edge: 0,
+        is_loaded: false,
+    }
 }
 
 // Returns word `k` of a set as a buffered word for the end `N`. At the front, the index of the
@@ -294,22 +318,14 @@ impl<W: Word, E: Endian> Model for Buffers<W, E> {
 
 impl<W: Word, E: Endian> Buffers<W, E> {
     /// Makes two buffers with no word loaded. The counts of scans and of fetches are 0. The number
-    /// of the set's words decides nothing. It only makes a mask that is no constant: with a
-    /// constant, the compiler would clear and test by two instructions in each step.
+    /// of the set's words, `words`, decides nothing; it is a number for the mask of `unloaded`.
     #[inline(always)]
-    #[tactic(auto, unfolding(crate::specs::Buffers::buffered_items))]
     pub fn none(words: usize) -> Buffers<W, E>
         ensures { result ≡ record { head = None; tail = None; scans = 0; fetches = 0 } }
     {
-        let none = BufferedWord {
-            word: W::zero(),
-            mask: W::from_bits(words as u128 & one_word::ones::<W>().to_bits()),
-            edge: 0,
-            is_loaded: false,
-        };
         Buffers {
-            head: none,
-            tail: none,
+            head: unloaded::<W, E, Front>(words),
+            tail: unloaded::<W, E, Back>(words),
             scans: Count::new(),
             fetches: Count::new(),
             order: PhantomData,
