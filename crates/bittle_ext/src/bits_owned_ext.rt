@@ -1,6 +1,7 @@
 //! Everyday calls that make owned sets.
 
-ghost use Rattle.std.specs.Prelude.{◌≡◌, ◌+◌, ◌-◌, ◌<◌, ◌≤◌, ℕ, Bool, false, length, List, IsTrue};
+ghost use Rattle.std.specs.Prelude.{◌≡◌, ◌+◌, ◌-◌, ◌<◌, ◌≤◌, ℕ, Bool, false, not, length, List};
+ghost use Rattle.std.specs.Prelude.{IsTrue};
 ghost use Rattle.std.specs.Iterator.{Drains, IsFinite};
 ghost use Rattle.std.specs.Iterator.Runs.{WholeRun};
 ghost use Rattle.std.specs.List.{fold};
@@ -112,8 +113,11 @@ pub trait BitsOwnedExt: BitsOwned {
         requires indexable { IsTrue Self.indexable }
         requires ordered { from ≤ to }
         requires within { to ≤ Self.type_capacity }
-        ensures { set_in Self.Shape Self.Order.Endian result
+        ensures set { set_in Self.Shape Self.Order.Endian result
             ≡ with_span_toggled (set_in Self.Shape Self.Order.Endian self) from to }
+        ensures flipped { (k : ℕ) → from ≤ k → k < to
+            → contains (set_in Self.Shape Self.Order.Endian result) k
+            ≡ not (contains (set_in Self.Shape Self.Order.Endian self) k) }
     {
         let mut set = self;
         set.toggle_range_in::<Self::Order>(from, to);
@@ -205,10 +209,15 @@ pub trait BitsOwnedExt: BitsOwned {
         requires ordered { start_index (R.start_bound range)
             ≤ end_index (R.end_bound range) Self.type_capacity }
         requires within { end_index (R.end_bound range) Self.type_capacity ≤ Self.type_capacity }
-        ensures { let start = start_index (R.start_bound range) in
+        ensures set { let start = start_index (R.start_bound range) in
             let end = end_index (R.end_bound range) Self.type_capacity in
             set_in Self.Shape Self.Order.Endian result
             ≡ with_span_toggled (set_in Self.Shape Self.Order.Endian self) start end }
+        ensures flipped { let start = start_index (R.start_bound range) in
+            let end = end_index (R.end_bound range) Self.type_capacity in
+            (k : ℕ) → start ≤ k → k < end
+            → contains (set_in Self.Shape Self.Order.Endian result) k
+            ≡ not (contains (set_in Self.Shape Self.Order.Endian self) k) }
     {
         let mut set = self;
         set.toggle_span(range);

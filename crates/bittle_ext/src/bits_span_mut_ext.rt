@@ -1,12 +1,12 @@
 //! Changes of a range of a set, where the range is a Rust range: `2..7`, `2..=6`, `..7`, `50..`,
 //! `..`.
 
-ghost use Rattle.std.specs.Prelude.{◌≡◌, ◌+◌, ◌-◌, ◌≤◌, cond, MatchBool};
+ghost use Rattle.std.specs.Prelude.{◌≡◌, ◌+◌, ◌-◌, ◌<◌, ◌≤◌, ℕ, cond, not, MatchBool};
 ghost use Rattle.std.specs.Range.Bound.{start_index, end_index};
 ghost use Rattle.bittle_ext.specs.Changes.{with_span_assigned};
 ghost use Rattle.bittle.specs.Searches.{NoneIn};
 ghost use Rattle.bittle_ext.specs.RangeMembers.{HasAllIn};
-ghost use Rattle.bittle.specs.PlainSet.{members_below, size};
+ghost use Rattle.bittle.specs.PlainSet.{contains, members_below, size};
 ghost use Rattle.bittle.specs.PlainSet.{with_span, without_span, with_span_toggled};
 ghost use Rattle.bittle.specs.Values.{set_in, ShapeFits};
 
@@ -108,6 +108,11 @@ pub trait BitsSpanMutExt: BitsMut + Sized {
             let end = end_index (R.end_bound range) (Self.big self.old).capacity in
             set_in Self.Shape Self.Order.Endian self.new
             ≡ with_span_toggled (set_in Self.Shape Self.Order.Endian self.old) start end }
+        ensures flipped { let start = start_index (R.start_bound range) in
+            let end = end_index (R.end_bound range) (Self.big self.old).capacity in
+            (k : ℕ) → start ≤ k → k < end
+            → contains (set_in Self.Shape Self.Order.Endian self.new) k
+            ≡ not (contains (set_in Self.Shape Self.Order.Endian self.old) k) }
         ensures stays { Self.loan self.old ≡ Self.loan self.new }
     {
         let (from, to) = ends_within::<Self, R>(self, &range);

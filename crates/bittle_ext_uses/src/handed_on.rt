@@ -198,6 +198,31 @@ pub fn flip_and_compare(mut row: [u32; 4]) -> bool
     row.test_bit(4) != before
 }
 
+/// Flips a range that is written as in Rust, and returns whether a bit of it differs from what it
+/// was.
+pub fn flip_span_and_compare(mut row: [u32; 4]) -> bool
+    ensures { result ≡ true }
+{
+    let before = row.test_bit(4);
+    row.toggle_span(3..=8);
+    row.test_bit(4) != before
+}
+
+/// Returns whether a copy with a range flipped differs from a word in a bit of the range.
+pub fn is_flipped_in_copy(word: u64) -> bool
+    ensures { result ≡ true }
+{
+    word.with_range_toggled(3, 9).test_bit(4) != word.test_bit(4)
+}
+
+/// Returns whether a copy with a range flipped, written as in Rust, differs from a word in a bit of
+/// the range.
+pub fn is_flipped_in_copy_of_span(word: u64) -> bool
+    ensures { result ≡ true }
+{
+    word.with_span_toggled(3..).test_bit(4) != word.test_bit(4)
+}
+
 /// Returns whether a union has all members of both words.
 pub fn is_union_greater(word: u64, other: u64) -> bool
     ensures { result ≡ true }
