@@ -1,5 +1,5 @@
-//! Functions that change a set and then ask for what the change has made so. No function names a
-//! lemma, and none has a proof file.
+//! Functions that change a set or make one, and then ask for what the call has made so. No function
+//! names a lemma, and none has a proof file.
 
 ghost use Rattle.std.specs.Prelude.{◌≡◌, ◌-◌, ◌<◌, ◌≤◌, not, true, false};
 ghost use Rattle.bittle.specs.BitPatterns.{bit_set};
@@ -249,18 +249,4 @@ pub fn take_and_test(mut row: [u32; 4]) -> bool
         Some(index) => row.test_bit(index),
         None => true,
     }
-}
-
-/// Returns whether a row that has a set bit has a first one.
-pub fn has_a_first(row: [u32; 4]) -> bool
-    ensures { result ≡ true }
-{
-    row.all_zeros() || row.first_one().is_some()
-}
-
-/// Returns whether a row that has an unset bit has a last one.
-pub fn has_a_last_unset(row: [u32; 4]) -> bool
-    ensures { result ≡ true }
-{
-    row.all_ones() || row.last_zero().is_some()
 }

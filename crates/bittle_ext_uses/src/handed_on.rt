@@ -1,6 +1,6 @@
 //! Functions that hand what a call returned to the next call: the index that a search found to a
-//! test or a change of this bit, or the set that an operation made to a test of two sets. No
-//! function names a lemma, and none has a proof file.
+//! test or a change of this bit, or the set that an operation made to a test of two sets. Others
+//! compare what two calls returned. No function names a lemma, and none has a proof file.
 
 ghost use Rattle.std.specs.Prelude.{◌≡◌, ◌+◌, ◌*◌, ◌<◌, ◌≤◌, length, IfSome, MatchBool};
 ghost use Rattle.std.specs.Prelude.{true, false};
@@ -258,4 +258,18 @@ pub fn compare_counts(row: [u32; 4], other: [u32; 4]) -> bool
 {
     row.conjunction(other).count_ones() <= row.count_ones()
         && row.count_ones() <= row.union(other).count_ones()
+}
+
+/// Returns whether a row that has a set bit has a first one.
+pub fn has_a_first(row: [u32; 4]) -> bool
+    ensures { result ≡ true }
+{
+    row.all_zeros() || row.first_one().is_some()
+}
+
+/// Returns whether a row that has an unset bit has a last one.
+pub fn has_a_last_unset(row: [u32; 4]) -> bool
+    ensures { result ≡ true }
+{
+    row.all_ones() || row.last_zero().is_some()
 }
