@@ -8,6 +8,7 @@ pub mod bits_after;
 pub mod blocks;
 pub mod chains;
 pub mod checked_indexes;
+pub mod clauses;
 pub mod combined_walks;
 pub mod equal_sets;
 pub mod field;

@@ -1,7 +1,8 @@
 //! Iterators over the maximal runs of a set.
 
 ghost use Rattle.std.specs.Iterator.{YieldsFirst, YieldsLast};
-ghost use Rattle.std.specs.Prelude.{◌≡◌, ◌-◌, ℕ, List, fold, length, max};
+ghost use Rattle.std.specs.List.{All};
+ghost use Rattle.std.specs.Prelude.{◌≡◌, ◌-◌, ◌≤◌, ℕ, List, fold, length, max};
 ghost use Rattle.std.specs.declared.ops.Range.{Range};
 ghost use Rattle.bittle.specs.BitPatterns.{bit_set};
 ghost use Rattle.bittle.specs.PlainSet.{complement};
@@ -44,6 +45,17 @@ pub fn counted_twice(mask: u32) -> (usize, usize)
 pub fn longest(mask: u64) -> u32
     ensures { result
         ≡ fold (λ most run. max most (run.end - run.start)) 0 (runs (bit_set 64 mask)) }
+{
+    let mut longest = 0;
+    for run in mask.iter_one_runs() {
+        longest = longest.max(run.end - run.start);
+    }
+    longest
+}
+
+/// Returns the length of the longest run of set bits. No run is longer.
+pub fn bound(mask: u64) -> u32
+    ensures { All (λ run. run.end - run.start ≤ result) (runs (bit_set 64 mask)) }
 {
     let mut longest = 0;
     for run in mask.iter_one_runs() {
