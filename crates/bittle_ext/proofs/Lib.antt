@@ -40,6 +40,7 @@ mod ShiftedWords
 mod WholeWords
 mod Windows
 mod WordsReplaced
+pub mod ZeroCounts
 pub mod RunFacts
 mod RunLists
 mod ShortRuns
