@@ -1,8 +1,10 @@
 -- What the bit is that a search found, and what the bits of a run are.
 use Rattle.std.proofs.Common.{◌≡◌, ℕ, ◌+◌, ◌≤◌, true, false, Option, Some, None, IfSome, ◌∙◌}
+use Rattle.std.proofs.Common.{MatchOption}
 use Rattle.std.proofs.Common.{arith}
 use Rattle.std.proofs.lemmas.Bool.{and_parts}
-use Rattle.bittle.specs.PlainSet.{PlainSet, complement, contains, is_in_span, lacks}
+use Rattle.bittle.specs.PlainSet.{PlainSet, complement, contains, is_in_span, lacks, members_below}
+use Rattle.bittle.specs.PlainSet.{size}
 use Rattle.bittle.specs.Searches.{IsFirstIn, IsLastIn, NoneIn}
 use Rattle.bittle.proofs.CallerSets.{contains_within}
 use Rattle.bittle_ext.specs.RangeMembers.{members_within}
@@ -32,6 +34,13 @@ pub unset_at_last : (s : PlainSet) (from to : ℕ) (r : Option ℕ) →
     IsLastIn (complement s) from to r → IfSome r (λ i. contains s i ≡ false)
 unset_at_last s from to None last = tt
 unset_at_last s from to (Some i) last = unset_where_found s i last.2
+
+-- the unset bit of a rank is unset
+pub unset_at_rank : (s : PlainSet) (rank : ℕ) (r : Option ℕ) →
+    MatchOption r (size (complement s) ≤ rank) (λ i. ((complement s).has i ≡ true)
+    × (members_below (complement s) i ≡ rank)) → IfSome r (λ i. contains s i ≡ false)
+unset_at_rank s rank None found = tt
+unset_at_rank s rank (Some i) found = unset_where_found s i found.0
 
 -- a run of unset bits that a search found has no member
 pub unset_in_first_run : (s : PlainSet) (from length : ℕ) (r : Option ℕ) →

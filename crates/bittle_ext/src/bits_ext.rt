@@ -194,6 +194,8 @@ pub trait BitsExt: Bits + Sized {
         ensures at_most_all { result ≤ size (set_in Self.Shape Self.Order.Endian self.now) }
         ensures below_member { (set_in Self.Shape Self.Order.Endian self.now).has index ≡ true
             → result < size (set_in Self.Shape Self.Order.Endian self.now) }
+        ensures none { NoneIn (set_in Self.Shape Self.Order.Endian self.now) 0 index
+            → result ≡ 0 }
     {
         self.count_ones_in_range_in::<Self::Order>(
             0,

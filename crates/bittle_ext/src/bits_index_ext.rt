@@ -3,7 +3,7 @@
 ghost use Rattle.std.specs.Option.{is_some};
 ghost use Rattle.std.specs.Prelude.{◌≡◌, ◌+◌, ◌<◌, ◌↔◌, cond, min, not, false, true};
 ghost use Rattle.std.specs.Prelude.{IfSome, IsTrue, MatchOption};
-ghost use Rattle.bittle.specs.PlainSet.{size, with_index, without_index};
+ghost use Rattle.bittle.specs.PlainSet.{contains, size, with_index, without_index};
 ghost use Rattle.bittle.specs.Values.{set_in, ShapeFits};
 
 use crate::bits_mut_ext::BitsMutExt;
@@ -34,6 +34,8 @@ pub trait BitsIndexExt: Bits + Sized {
             → result ≡ (set_in Self.Shape Self.Order.Endian self.now).has index }
         ensures until_last { index < 4294967295
             → result ≡ (set_in Self.Shape Self.Order.Endian self.now).has index }
+        ensures contains { index < 4294967295 → index < (Self.big self.now).capacity
+            → result ≡ contains (set_in Self.Shape Self.Order.Endian self.now) index }
         ensures below { IsTrue result → index < min (Self.big self.now).capacity 4294967295 }
     {
         index < self.bits_capacity() && self.test_bit_in::<Self::Order>(index)
@@ -54,6 +56,8 @@ pub trait BitsIndexExt: Bits + Sized {
             ↔ index < min (Self.big self.now).capacity 4294967295 }
         ensures value { IfSome result
             (λ bit. bit ≡ (set_in Self.Shape Self.Order.Endian self.now).has index) }
+        ensures contains { IfSome result
+            (λ bit. bit ≡ contains (set_in Self.Shape Self.Order.Endian self.now) index) }
     {
         if index < self.bits_capacity() {
             Some(self.test_bit_in::<Self::Order>(index))

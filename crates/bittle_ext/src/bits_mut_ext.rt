@@ -481,6 +481,9 @@ pub trait BitsMutExt: BitsMut + Sized {
         ensures count { let before = set_in Self.Shape Self.Order.Endian self.old in
             size (set_in Self.Shape Self.Order.Endian self.new)
             ≡ size before - (members_below before to - members_below before from) + (to - from) }
+        ensures grows { let before = set_in Self.Shape Self.Order.Endian self.old in
+            NoneIn before from to → size (set_in Self.Shape Self.Order.Endian self.new)
+            ≡ size before + (to - from) }
         ensures all { HasAllIn (set_in Self.Shape Self.Order.Endian self.new) from to }
         ensures stays { Self.loan self.old ≡ Self.loan self.new }
     {
@@ -504,6 +507,9 @@ pub trait BitsMutExt: BitsMut + Sized {
         ensures count { let before = set_in Self.Shape Self.Order.Endian self.old in
             size (set_in Self.Shape Self.Order.Endian self.new)
             ≡ size before - (members_below before to - members_below before from) }
+        ensures shrinks { let before = set_in Self.Shape Self.Order.Endian self.old in
+            HasAllIn before from to → size (set_in Self.Shape Self.Order.Endian self.new)
+            + (to - from) ≡ size before }
         ensures none { NoneIn (set_in Self.Shape Self.Order.Endian self.new) from to }
         ensures stays { Self.loan self.old ≡ Self.loan self.new }
     {

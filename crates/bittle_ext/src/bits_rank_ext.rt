@@ -1,7 +1,8 @@
 //! Calls that count unset bits below an index, and that find an unset bit by its rank.
 
-ghost use Rattle.std.specs.Prelude.{◌≡◌, ◌+◌, ◌<◌, ◌≤◌, true, IfSome, MatchOption, slice_get};
-ghost use Rattle.bittle.specs.PlainSet.{ascending, complement, members_below, size};
+ghost use Rattle.std.specs.Prelude.{◌≡◌, ◌+◌, ◌<◌, ◌≤◌, true, false, IfSome, MatchOption};
+ghost use Rattle.std.specs.Prelude.{slice_get};
+ghost use Rattle.bittle.specs.PlainSet.{ascending, complement, contains, members_below, size};
 ghost use Rattle.bittle.specs.Values.{set_in, ShapeFits};
 
 use crate::bits_ext::BitsExt;
@@ -56,6 +57,8 @@ pub trait BitsRankExt: Bits + Sized {
         ensures found { let unset = complement (set_in Self.Shape Self.Order.Endian self.now) in
             MatchOption result (size unset ≤ rank) (λ index. (unset.has index ≡ true)
             × (members_below unset index ≡ rank)) }
+        ensures unset { IfSome result
+            (λ index. contains (set_in Self.Shape Self.Order.Endian self.now) index ≡ false) }
     {
         self.complement_view().select(rank)
     }

@@ -1,6 +1,6 @@
 //! Relations of two sets.
 
-ghost use Rattle.std.specs.Prelude.{◌+◌, ◌≡◌, ◌↔◌, IsTrue, ◌<◌, ◌≤◌, IfSome, max};
+ghost use Rattle.std.specs.Prelude.{ℕ, ◌+◌, ◌≡◌, ◌↔◌, IsTrue, ◌<◌, ◌≤◌, IfSome, max};
 ghost use Rattle.bittle_ext.specs.Combined.{both_of, first_only_of, just_one_of};
 ghost use Rattle.bittle_ext.specs.SetRelations.{IsSubset, AreDisjoint, Meet};
 ghost use Rattle.bittle_ext.specs.SetRelations.{IsFirstAlone, IsFirstCommon};
@@ -160,6 +160,9 @@ pub trait BitsRelationExt: Bits + Sized {
         ensures with_alone { let ours = set_in Self.Shape Self.Order.Endian self.now in
             let theirs = set_in B.Shape B.Order.Endian other.now in
             size (first_only_of ours theirs) + result ≡ size (Self.big self.now) }
+        ensures none { let ours = set_in Self.Shape Self.Order.Endian self.now in
+            let theirs = set_in B.Shape B.Order.Endian other.now in
+            (result ≡ 0) ↔ AreDisjoint ours theirs }
         ensures at_most { result ≤ (Self.big self.now).capacity }
         ensures at_most_ours { result ≤ size (Self.big self.now) }
         ensures at_most_theirs { result ≤ size (B.big other.now) }
@@ -183,6 +186,9 @@ pub trait BitsRelationExt: Bits + Sized {
         ensures value { let ours = set_in Self.Shape Self.Order.Endian self.now in
             let theirs = set_in B.Shape B.Order.Endian other.now in
             result ≡ size (first_only_of ours theirs) }
+        ensures none { let ours = set_in Self.Shape Self.Order.Endian self.now in
+            let theirs = set_in B.Shape B.Order.Endian other.now in
+            (result ≡ 0) ↔ IsSubset ours theirs }
         ensures at_most { result ≤ (Self.big self.now).capacity }
         ensures at_most_ours { result ≤ size (Self.big self.now) }
     {
@@ -209,6 +215,9 @@ pub trait BitsRelationExt: Bits + Sized {
         ensures value { let ours = set_in Self.Shape Self.Order.Endian self.now in
             let theirs = set_in B.Shape B.Order.Endian other.now in
             result ≡ size (just_one_of ours theirs) }
+        ensures none { let ours = set_in Self.Shape Self.Order.Endian self.now in
+            let theirs = set_in B.Shape B.Order.Endian other.now in
+            (result ≡ 0) ↔ ((i : ℕ) → ours.has i ≡ theirs.has i) }
         ensures at_most { result ≤ max (Self.big self.now).capacity (B.big other.now).capacity }
     {
         if are_alike::<Self, B, Self::Order, B::Order>() {

@@ -90,12 +90,34 @@ pub fn contains_number(set: u64, i: u32) -> bool
     set.contains_index(i)
 }
 
+/// Returns whether `i`, which is below the capacity, is a member.
+pub fn contains_number_below(set: u64, i: u32) -> bool
+    requires { i < 64 }
+    ensures { result ≡ contains (bit_set 64 set) i }
+{
+    set.contains_index(i)
+}
+
 /// Returns how many members two words have in common, and how many the first one has alone.
 pub fn count_two(set: u64, other: u64) -> (u32, u32)
     ensures common { result.0 ≡ size (both_of (bit_set 64 set) (bit_set 64 other)) }
     ensures alone { result.1 ≡ size (first_only_of (bit_set 64 set) (bit_set 64 other)) }
 {
     (set.count_common(&other), set.count_alone(&other))
+}
+
+/// Counts the members that two words have in common. There is none if the words are disjoint.
+pub fn count_in_both(set: u64, other: u64) -> u32
+    ensures { (result ≡ 0) ↔ AreDisjoint (bit_set 64 set) (bit_set 64 other) }
+{
+    set.count_common(&other)
+}
+
+/// Counts the members that one word has alone. There is none if this word is a subset.
+pub fn count_in_first(set: u64, other: u64) -> u32
+    ensures { (result ≡ 0) ↔ IsSubset (bit_set 64 set) (bit_set 64 other) }
+{
+    set.count_alone(&other)
 }
 
 /// Returns the least member from `from` on.

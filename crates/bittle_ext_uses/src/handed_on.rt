@@ -260,6 +260,122 @@ pub fn compare_counts(row: [u32; 4], other: [u32; 4]) -> bool
         && row.count_ones() <= row.union(other).count_ones()
 }
 
+/// Inserts an index, and returns whether the set has it. An index past the capacity is refused.
+pub fn insert_and_ask(mut set: u32, index: u32) -> bool
+    requires { index < 32 }
+    ensures { result ≡ true }
+{
+    set.insert(index);
+    set.contains_index(index)
+}
+
+/// Returns whether the last index before 20 that a word lacks is in it.
+pub fn has_what_it_lacks(word: u32) -> bool
+    ensures { result ≡ false }
+{
+    match word.prev_zero(20) {
+        Some(index) => word.contains_index(index),
+        None => false,
+    }
+}
+
+/// Takes the least member out, and returns whether the set still has it.
+pub fn pop_and_ask(mut word: u32) -> bool
+    ensures { result ≡ false }
+{
+    match word.pop_first() {
+        Some(index) => word.contains_index(index),
+        None => false,
+    }
+}
+
+/// Flips a bit, and returns whether the answer of `contains_index` changed.
+pub fn flip_and_ask(mut word: u32) -> bool
+    ensures { result ≡ true }
+{
+    let before = word.contains_index(7);
+    word.toggle(7);
+    word.contains_index(7) != before
+}
+
+/// Returns whether an unset bit, found by its rank, is set.
+pub fn is_unset_bit_set(word: u32, rank: u32) -> bool
+    ensures { result ≡ false }
+{
+    match word.select_zero(rank) {
+        Some(index) => word.test_bit(index),
+        None => false,
+    }
+}
+
+/// Sets a free run of 4 bits, and returns whether the number of set bits grew by 4.
+pub fn fill_and_count(mut map: [u64; 4]) -> bool
+    ensures { result ≡ true }
+{
+    let before = map.count_ones();
+    match map.first_zero_run(4) {
+        Some(first) => {
+            map.set_range(first, first + 4);
+            map.count_ones() == before + 4
+        }
+        None => true,
+    }
+}
+
+/// Clears a run of 4 set bits, and returns whether the number of set bits fell by 4.
+pub fn clear_and_count(mut map: [u64; 4]) -> bool
+    ensures { result ≡ true }
+{
+    let before = map.count_ones();
+    match map.first_one_run(4) {
+        Some(first) => {
+            map.clear_range(first, first + 4);
+            map.count_ones() + 4 == before
+        }
+        None => true,
+    }
+}
+
+/// Returns whether the rank of the first set bit is 0.
+pub fn rank_of_first(row: [u32; 4]) -> bool
+    ensures { result ≡ true }
+{
+    match row.first_one() {
+        Some(first) => row.rank(first) == 0,
+        None => true,
+    }
+}
+
+/// Returns whether a count of the rights that are asked for and not granted tells the same as
+/// `is_subset`.
+pub fn count_missing(asked: u32, granted: [u8; 8]) -> bool
+    ensures { result ≡ true }
+{
+    if asked.count_alone(&granted) == 0 {
+        asked.is_subset(&granted)
+    } else {
+        !asked.is_subset(&granted)
+    }
+}
+
+/// Returns whether a count of the shared indexes tells the same as `is_disjoint`.
+pub fn count_shared(one: u32, other: [u8; 8]) -> bool
+    ensures { result ≡ true }
+{
+    if one.count_common(&other) == 0 {
+        one.is_disjoint(&other)
+    } else {
+        one.intersects(&other)
+    }
+}
+
+/// Returns whether two sets that differ in no index are subsets of each other.
+pub fn count_changes(one: u32, other: [u8; 8]) -> bool
+    ensures { result ≡ true }
+{
+    one.count_different(&other) != 0 || (one.is_subset(&other) && other.is_subset(&one))
+}
+
 /// Returns whether a row that has a set bit has a first one.
 pub fn has_a_first(row: [u32; 4]) -> bool
     ensures { result ≡ true }

@@ -2,7 +2,7 @@ use Rattle.std.proofs.Common.{arith}
 use Rattle.bittle.specs.Values.{set_in}
 use Rattle.bittle_bits.proofs.MembersBelow.{below_between}
 use Rattle.bittle_ext.proofs.KeptSizes.{below_member}
-use Rattle.bittle_ext.proofs.RankFacts.{below_past, below_zero}
+use Rattle.bittle_ext.proofs.RankFacts.{below_past, below_stays, below_zero}
 use Rattle.bittle_ext.proofs.bits_ext.BitsExt.rank.Goals as goal
 
 pub returns-clause-value : goal.returns-clause-value
@@ -29,3 +29,9 @@ returns-clause-below_member g c has =
       below_member s c.args.index c.capacity_of.ensures.ends.past has,
       returns-clause-value g c,
     )
+
+pub returns-clause-none : goal.returns-clause-none
+returns-clause-none g c none =
+    let s = set_in g.Self.Shape g.Self.Order.Endian c.args.self.now in
+    let same = below_stays s 0 c.args.index (omega arith) none in
+    omega (arith, same, returns-clause-value g c, below_zero s)
