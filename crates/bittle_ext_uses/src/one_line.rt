@@ -6,7 +6,6 @@ ghost use Rattle.std.specs.Prelude.{length, IfSome};
 ghost use Rattle.bittle.specs.BitPatterns.{bit_set};
 ghost use Rattle.bittle.specs.PlainSet.{complement, contains, size};
 ghost use Rattle.bittle.specs.Rows.{row_set};
-ghost use Rattle.bittle.specs.Searches.{NoneIn};
 ghost use Rattle.bittle.specs.SetOperations.{difference_of, union_of};
 ghost use Rattle.bittle_ext.specs.Combined.{either_of};
 ghost use Rattle.bittle_ext.specs.Runs.{IsFirstRun};
@@ -40,18 +39,6 @@ pub fn mark_all(row: &mut [u64; 4], indexes: &[u32])
         ≤ size (row_set 4 64 (bit_set 64) row.old) + length indexes.now }
 {
     row.insert_all(indexes);
-}
-
-/// Sets the bits of a range in which no bit is set. The number of set bits grows by the length of
-/// the range.
-pub fn fill_free(row: &mut [u64; 4], from: u32, to: u32)
-    requires ordered { from ≤ to }
-    requires within { to ≤ 256 }
-    requires free { NoneIn (row_set 4 64 (bit_set 64) row.old) from to }
-    ensures { size (row_set 4 64 (bit_set 64) row.new)
-        ≡ size (row_set 4 64 (bit_set 64) row.old) + (to - from) }
-{
-    row.set_range(from, to);
 }
 
 /// Returns the first hour that is not taken. Each hour before it is taken.

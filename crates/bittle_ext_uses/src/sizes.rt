@@ -1,7 +1,10 @@
 //! Callers that compare how many bits are set before and after a change. None has a proof file.
 
-ghost use Rattle.std.specs.Prelude.{◌≡◌, ◌+◌, ◌≤◌, length, IsTrue};
+ghost use Rattle.std.specs.Prelude.{◌≡◌, ◌+◌, ◌-◌, ◌≤◌, length, IsTrue};
+ghost use Rattle.bittle.specs.BitPatterns.{bit_set};
 ghost use Rattle.bittle.specs.PlainSet.{size};
+ghost use Rattle.bittle.specs.Rows.{row_set};
+ghost use Rattle.bittle.specs.Searches.{NoneIn};
 ghost use Rattle.bittle.specs.Values.{set_in, ShapeFits};
 
 use bittle::{Bits, BitsMut, BitsOwned};
@@ -80,4 +83,16 @@ pub fn repeats<B: BitsOwned>(numbers: &[u32]) -> u32
     ensures { result ≤ length numbers.now }
 {
     numbers.len() as u32 - B::from_indexes(numbers).count_ones()
+}
+
+/// Sets the bits of a range in which no bit is set. The number of set bits grows by the length of
+/// the range.
+pub fn fill_free(row: &mut [u64; 4], from: u32, to: u32)
+    requires ordered { from ≤ to }
+    requires within { to ≤ 256 }
+    requires free { NoneIn (row_set 4 64 (bit_set 64) row.old) from to }
+    ensures { size (row_set 4 64 (bit_set 64) row.new)
+        ≡ size (row_set 4 64 (bit_set 64) row.old) + (to - from) }
+{
+    row.set_range(from, to);
 }
