@@ -2,7 +2,7 @@
 //! the unset bits. To pass over words is to skip them without reading them.
 
 ghost use Rattle.std.specs.Prelude.{◌≡◌, ◌+◌, ◌==◌, ◌*◌, ◌%◌, ◌<◌, ◌≤◌, ℕ, Bool, true, false, cond};
-ghost use Rattle.std.specs.Prelude.{get_or, length, IsTrue, List, MatchOption};
+ghost use Rattle.std.specs.Prelude.{get_or, length, set, IsTrue, List, MatchOption};
 ghost use Rattle.bittle_bits.specs.Orders.{read_in};
 ghost use Rattle.bittle_bits.specs.Pieces.{LiesAt};
 ghost use Rattle.bittle_bits.specs.PlainSet.{contains, with_span_changed, without_members, size};
@@ -52,18 +52,20 @@ pub fn is_short<T: FixedCapacity>(len: usize) -> bool {
     bits_capacity::<T>(len) <= 1024
 }
 
-// Wraps an index at a capacity. A capacity of `u32::MAX` stands for a row that does not fit. The
-// true capacity of such a row is past every index, so the index is returned as it is.
+// Returns where an index wraps to in a row of `len` elements, or `None` if the index is below the
+// capacity. If the row does not fit, its capacity is past every index.
 #[inline]
-fn wrapped(index: u32, capacity: u32) -> u32
-    requires { 0 < capacity }
-    ensures wraps { capacity < 4294967295 → result ≡ index % capacity }
-    ensures past { capacity ≡ 4294967295 → result ≡ index }
+fn wrapped<T: ReadWords + FixedCapacity>(len: usize, index: u32) -> Option<u32>
+    requires indexable { IsTrue T.indexable }
+    requires some { 0 < len * T.type_capacity }
+    ensures { let end = len * T.type_capacity in MatchOption result
+        ((index ≡ index % end) × (index < end)) (λ at. (at ≡ index % end) × (at < end)) }
 {
+    let capacity = bits_capacity::<T>(len);
     if index < capacity || capacity == u32::MAX {
-        index
+        None
     } else {
-        index % capacity
+        Some(index % capacity)
     }
 }
 
@@ -88,7 +90,7 @@ fn locate<T: ReadWords + FixedCapacity>(
     if is_array {
         return Some(((index / each) as usize % len, index % each));
     }
-    let within = wrapped(index, bits_capacity::<T>(len));
+    let within = wrapped::<T>(len, index).unwrap_or(index);
     Some(((within / each) as usize, within % each))
 }
 
@@ -109,11 +111,54 @@ pub fn test_bit<T: Bits + FixedCapacity, E: Endian>(
     }
 }
 
+// Changes the bit at `at` of an element: sets it if `K` is `Ones`, and clears it if `K` is `Zeros`.
+#[inline]
+fn put_in_element<T: BitsMut + FixedCapacity, E: Endian, K: Kind>(element: &mut T, at: u32)
+    requires { IsTrue T.indexable }
+    ensures { read_in E.mirrored T.width (T.big element.new)
+        ≡ with_bit K.ONES (read_in E.mirrored T.width (T.big element.old)) at }
+{
+    if K::ONES {
+        element.set_bit_in::<E>(at);
+    } else {
+        element.clear_bit_in::<E>(at);
+    }
+}
+
+// Returns the number of the element that the bit at `index` lies in, and a copy of this element in
+// which this bit is changed.
+#[inline]
+fn changed_element<T: BitsMut + FixedCapacity + Copy, E: Endian, K: Kind>(
+    elements: &[T],
+    index: u32,
+) -> (usize, T)
+    requires indexable { IsTrue T.indexable }
+    requires filled { 0 < length elements.now }
+    requires some { 0 < T.type_capacity }
+    requires within { index < length elements.now * T.type_capacity }
+    ensures element { result.0 < length elements.now }
+    ensures changed { (i : ℕ) → index ≡ i % (length elements.now * T.type_capacity)
+        → row_in T.Shape E.Endian (set elements.now result.0 result.1)
+        ≡ with_bit K.ONES (row_in T.Shape E.Endian elements.now) i }
+{
+    let each = T::fixed_capacity();
+    let element = (index / each) as usize;
+    let mut changed = elements[element];
+    put_in_element::<T, E, K>(&mut changed, index % each);
+    (element, changed)
+}
+
 /// Changes the bit at `index` of an array (if `is_array` is `true`) or of a slice: sets it if `K`
 /// is `Ones`, and clears it if `K` is `Zeros`. An index at or past the capacity wraps. With
 /// capacity 0 nothing changes.
+///
+/// In a slice of words, an index that wraps and one that does not have a branch each, which changes
+/// a copy of the word. The copy is stored after both. So the compiler changes the bit in a
+/// register, by one instruction, and not in memory. The branch of the index that wraps stands
+/// first, because the compiler then adds no jump to the other branch. In little-endian order it
+/// finds no such instruction, and changes the word in memory.
 #[inline]
-pub fn put_bit<T: BitsMut + FixedCapacity, E: Endian, K: Kind>(
+pub fn put_bit<T: BitsMut + FixedCapacity + Copy, E: Endian, K: Kind>(
     elements: &mut [T],
     index: u32,
     is_array: bool,
@@ -122,12 +167,16 @@ pub fn put_bit<T: BitsMut + FixedCapacity, E: Endian, K: Kind>(
     ensures { row_in T.Shape E.Endian elements.new ≡ with_bit K.ONES
         (row_in T.Shape E.Endian elements.old) index }
 {
-    if let Some((element, at)) = locate::<T>(elements.len(), index, is_array) {
-        if K::ONES {
-            elements[element].set_bit_in::<E>(at);
-        } else {
-            elements[element].clear_bit_in::<E>(at);
+    if is_array || E::is_mirrored() || T::fixed_capacity() != word_width::<T>() {
+        if let Some((element, at)) = locate::<T>(elements.len(), index, is_array) {
+            put_in_element::<T, E, K>(&mut elements[element], at);
         }
+    } else if elements.len() != 0 {
+        let (element, changed) = match wrapped::<T>(elements.len(), index) {
+            Some(within) => changed_element::<T, E, K>(elements, within),
+            None => changed_element::<T, E, K>(elements, index),
+        };
+        elements[element] = changed;
     }
 }
 
